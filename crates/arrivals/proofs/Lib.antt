@@ -1,0 +1,13 @@
+pub mod Admission
+pub mod Continuations
+pub mod Each
+pub mod Empty
+pub mod Instants
+pub mod Least
+pub mod Matched
+pub mod OneCounter
+pub mod Quotients
+pub mod Ranges
+pub mod Recorded
+pub mod Tokens
+pub mod Tracking

@@ -1,0 +1,60 @@
+-- A loop that answers one record after another.
+use mathlib.Core.List.{List, [], _∷_, _++_, append-assoc, map}
+use mathlib.Core.Path.{_≡_, refl, sym, ap, _∙_}
+use native.Mathlib.Omega.{arith}
+use Prim.Native.Nat.{ℕ, _+_, _<_, _≤_}
+use lib.ListN.{drop, getD, length, set, take}
+use Rattle.std.proofs.shelf.Lists.{append-nil, at-drop-all, drop-drop, drop-more, drop-set-lt, take-all, take-more-set}
+use Rattle.std.specs.declared.option.Option.the-variants.{Some}
+use Rattle.std.specs.declared.result.Result.{Result}
+use Rattle.tasks.specs.Reply.{reply}
+use Rattle.arrivals.specs.Monitor.{MonitorModel, after, answer-to, monitor-refusal}
+use Rattle.arrivals.specs.Runs.{Observation, after-all, events, heard, history, observations}
+use Rattle.arrivals.specs.declared.counter.Event.{Event}
+use Rattle.arrivals.specs.declared.record.Record.{Record}
+use Rattle.arrivals.specs.declared.refusal.MonitorRefusal.{MonitorRefusal}
+
+pub history-append : (xs ys : List Record) → history (xs ++ ys) ≡ history xs ++ history ys
+history-append [] ys = refl
+history-append (x ∷ xs) ys = ap (λ os. heard (x .event) (x .answer) ++ os) (history-append xs ys) ∙ sym (append-assoc (heard (x .event) (x .answer)) (history xs) (history ys))
+
+-- The loop is at the place i of the records, which were `old` when it began; `now` is what they hold, and m is the monitor.
+-- What was answered, followed by what is to be answered, is what the fresh monitor answers; and so with the monitor that is left.
+pub record Answered (start : MonitorModel) (old now : List Record) (i : ℕ) (m : MonitorModel) : Type 0 where
+  pub answers : history (take i now) ++ observations m (events (drop i old)) ≡ observations start (events old)
+  pub left : after-all m (events (drop i old)) ≡ after-all start (events old)
+  pub rest : drop i now ≡ drop i old
+
+pub answered-none : (start : MonitorModel) (old : List Record) → Answered start old old 0 start
+answered-none start old = record { answers = refl; left = refl; rest = refl }
+
+pub answered-more : (start m m′ : MonitorModel) (old now : List Record) (i : ℕ) (e : Event) (a : Result ℕ MonitorRefusal) (d : Record) → i < length now → e ≡ getD now i d .event
+    → reply (λ n. n) monitor-refusal a ≡ answer-to e m → m′ ≡ after e m → Answered start old now i m
+    → Answered start old (set now i (record { event = e; answer = Some a })) (i + 1) m′
+answered-more start m m′ old now i e a d h same said then inv =
+    let told : Record = record { event = e; answer = Some a } in
+    let before = history (take i now) in
+    let later : drop (i + 1) now ≡ drop (i + 1) old = sym (drop-drop 1 i now) ∙ ap (drop 1) (inv .rest) ∙ drop-drop 1 i old in
+    let es = events (drop (i + 1) old) in
+    let here : events (drop i old) ≡ e ∷ es =
+    ap events (sym (inv .rest) ∙ drop-more now i d h) ∙ ap (λ x. x ∷ events (drop (i + 1) now)) (sym same) ∙ ap (λ rs. e ∷ events rs) later in
+    record {
+      answers =
+          ap (λ rs. history rs ++ observations m′ es) (take-more-set now i told h)
+          ∙ ap (λ os. os ++ observations m′ es) (history-append (take i now) (told ∷ []))
+          ∙ append-assoc before (record { event = e; answer = reply (λ n. n) monitor-refusal a } ∷ []) (observations m′ es)
+          ∙ ap (λ r. before ++ (record { event = e; answer = r } ∷ observations m′ es)) said
+          ∙ ap (λ n. before ++ (record { event = e; answer = answer-to e m } ∷ observations n es)) then
+          ∙ sym (ap (λ ds. before ++ observations m ds) here)
+          ∙ inv .answers;
+      left = ap (λ n. after-all n es) then ∙ sym (ap (after-all m) here) ∙ inv .left;
+      rest = drop-set-lt (i + 1) now i told (omega arith) ∙ later;
+    }
+
+pub answered-all : (start m : MonitorModel) (old now : List Record) (i : ℕ) → length now ≤ i → length now ≡ length old → Answered start old now i m
+    → (history now ≡ observations start (events old)) × (m ≡ after-all start (events old))
+answered-all start m old now i h n inv =
+    let done : events (drop i old) ≡ [] = at-drop-all events old i (omega arith) in (
+      sym (append-nil (history now)) ∙ ap (λ rs. history rs ++ []) (sym (take-all i now h)) ∙ sym (ap (λ es. history (take i now) ++ observations m es) done) ∙ inv .answers,
+      sym (ap (after-all m) done) ∙ inv .left,
+    )

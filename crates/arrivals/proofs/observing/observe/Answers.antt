@@ -1,0 +1,35 @@
+use mathlib.Core.Path.{_≡_, refl, sym, ap, subst, _∙_}
+use native.Mathlib.Omega.{arith}
+use Rattle.std.specs.declared.option.Option.the-variants.{None}
+use Rattle.arrivals.specs.Monitor.{fresh, monitor-of}
+use Rattle.arrivals.specs.Runs.{events}
+use Rattle.arrivals.specs.Windows.{All-admitted-rightly}
+use Rattle.arrivals.specs.declared.counter.Event.the-variants.{Arrival}
+use Rattle.arrivals.specs.declared.record.Record.{Record}
+use Rattle.bounded.specs.List.{items}
+use Rattle.tasks.specs.Task.{task-of}
+use Rattle.arrivals.proofs.Admission.{all-admitted-rightly}
+use Rattle.arrivals.proofs.Ranges.{real-staircases}
+use Rattle.arrivals.proofs.Recorded.{Answered, answered-all, answered-more, answered-none}
+use Rattle.arrivals.proofs.observing.observe.Needs as need
+
+pub loop-record-holds : need.loop-record-holds
+loop-record-holds c =
+    let start = fresh (task-of (c .args .task .now)) in
+    subst (Answered start (c .args .records .now) (c .args .records .now) 0) (sym (c .new-monitor .ensures)) (answered-none start (c .args .records .now))
+
+pub loop-record-again : need.loop-record-again
+loop-record-again c =
+    let none : Record = record { event = Arrival; answer = None } in
+    answered-more _ (monitor-of (c .loop-record .monitor)) _ (c .args .records .now) (c .loop-record .records) (c .loop-record .record-index) _ _ none (omega arith) refl
+    (c .serve .ensures .answer) (c .serve .ensures .left) (c .loop-record .inv)
+
+pub returns : need.returns
+returns c =
+    let all = answered-all _ (monitor-of (c .loop-record .monitor)) (c .args .records .now) (c .loop-record .records) (c .loop-record .record-index) (omega arith) (omega arith) (c .loop-record .inv) in
+    let t = task-of (c .args .task .now) in
+    record {
+      answers = all .0;
+      left = all .1;
+      admission = subst (All-admitted-rightly t) (sym (all .0)) (all-admitted-rightly t (real-staircases (items (c .args .task .now .staircases))) (events (c .args .records .now)));
+    }

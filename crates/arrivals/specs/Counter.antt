@@ -1,0 +1,31 @@
+-- The counter of one staircase.
+use mathlib.Core.Bool.{Bool, true, cond, _&&_}
+use Prim.Native.Nat.{ℕ, _+_, _-_}
+use lib.Dec.{eqb, ltb}
+use Rattle.tasks.specs.Staircase.{StaircaseModel}
+use Rattle.arrivals.specs.declared.counter.Counter.{Counter}
+use Rattle.arrivals.specs.declared.counter.Counter.the-variants.{Full, Short}
+use Rattle.arrivals.specs.declared.counter.Event.{Event}
+use Rattle.arrivals.specs.declared.counter.Event.the-variants.{Arrival, Tick}
+
+-- a counter keeps within its staircase
+abbrev pub sound : StaircaseModel → Counter → Bool
+sound s Full = true
+sound s (Short t g) = ltb t (s .burst) && ltb g (s .step)
+
+abbrev pub tokens : StaircaseModel → Counter → ℕ
+tokens s Full = s .burst
+tokens s (Short t g) = t
+
+abbrev pub age : Counter → ℕ
+age Full = 0
+age (Short t g) = g
+
+-- An arrival takes a token; a tick ages a short counter by one. At the age of a step it gains a token and its age is 0; with
+-- as many tokens as the burst it is full.
+abbrev pub counter-after : StaircaseModel → Event → Counter → Counter
+counter-after s Arrival Full = Short (s .burst - 1) 0
+counter-after s Arrival (Short t g) = Short (t - 1) g
+counter-after s Tick Full = Full
+counter-after s Tick (Short t g) =
+    cond (eqb (g + 1) (s .step)) (cond (eqb (t + 1) (s .burst)) Full (Short (t + 1) 0)) (Short t (g + 1))

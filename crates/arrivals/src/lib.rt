@@ -1,0 +1,21 @@
+// The counters that watch a task's arrivals, and a monitor that admits an arrival only where every staircase allows it.
+
+mod bucket;
+mod counter;
+mod counters;
+mod counting;
+mod monitor;
+mod monitoring;
+mod observing;
+mod record;
+mod refusal;
+mod stepping;
+
+pub use counter::Counter;
+pub use counter::Event;
+pub use counters::Counters;
+pub use monitor::Monitor;
+pub use observing::observe;
+pub use record::Record;
+pub use refusal::MonitorRefusal;
+pub use refusal::MonitorRefusalDisplay;

@@ -1,0 +1,4 @@
+pub mod Entries
+pub mod Least
+pub mod Lists
+pub mod Longest

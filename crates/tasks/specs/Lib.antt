@@ -1,0 +1,7 @@
+pub mod Reply
+pub mod Least
+pub mod Staircase
+pub mod Task
+pub mod Quantity
+pub mod Making
+pub mod Draft
