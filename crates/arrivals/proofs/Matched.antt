@@ -17,7 +17,7 @@ matched-full (s ∷ ss) =
     and-from (eqb (s .burst) (s .burst) && eqb (s .step) (s .step)) (matched ss (map full ss))
     (and-from (eqb (s .burst) (s .burst)) (eqb (s .step) (s .step)) (eq-eqb (s .burst) (s .burst) refl) (eq-eqb (s .step) (s .step) refl)) (matched-full ss)
 
-pub matched-after : (e : Event) (ss : List StaircaseModel) (bs : List BucketModel) → matched ss (map (bucket-after e) bs) ≡ matched ss bs
+matched-after : (e : Event) (ss : List StaircaseModel) (bs : List BucketModel) → matched ss (map (bucket-after e) bs) ≡ matched ss bs
 matched-after e [] [] = refl
 matched-after e [] (b ∷ bs) = refl
 matched-after e (s ∷ ss) [] = refl
@@ -28,3 +28,7 @@ matched-length [] [] e = refl
 matched-length [] (b ∷ bs) e = let z : _≡_ {A = ℕ} 0 1 = cc in absurd (omega arith)
 matched-length (s ∷ ss) [] e = let z : _≡_ {A = ℕ} 0 1 = cc in absurd (omega arith)
 matched-length (s ∷ ss) (b ∷ bs) e = ap suc (matched-length ss bs (and-parts _ _ e .1))
+
+-- an event leaves what was matched so
+pub still-matched : (e : Event) (ss : List StaircaseModel) (bs cs : List BucketModel) → cs ≡ map (bucket-after e) bs → matched ss bs ≡ true → matched ss cs ≡ true
+still-matched e ss bs cs h m = ap (matched ss) h ∙ matched-after e ss bs ∙ m

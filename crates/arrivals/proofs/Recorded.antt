@@ -5,14 +5,9 @@ use native.Mathlib.Omega.{arith}
 use Prim.Native.Nat.{ℕ, _+_, _<_, _≤_}
 use lib.ListN.{drop, getD, length, set, take}
 use Rattle.std.proofs.shelf.Lists.{append-nil, at-drop-all, drop-drop, drop-more, drop-set-lt, take-all, take-more-set}
-use Rattle.std.specs.declared.option.Option.the-variants.{Some}
-use Rattle.std.specs.declared.result.Result.{Result}
-use Rattle.tasks.specs.Reply.{reply}
-use Rattle.arrivals.specs.Monitor.{MonitorModel, after, answer-to, monitor-refusal}
-use Rattle.arrivals.specs.Runs.{Observation, after-all, events, heard, history, observations}
-use Rattle.arrivals.specs.declared.counter.Event.{Event}
+use Rattle.arrivals.specs.Monitor.{MonitorModel, after}
+use Rattle.arrivals.specs.Runs.{after-all, events, heard, history, observation, observations}
 use Rattle.arrivals.specs.declared.record.Record.{Record}
-use Rattle.arrivals.specs.declared.refusal.MonitorRefusal.{MonitorRefusal}
 
 pub history-append : (xs ys : List Record) → history (xs ++ ys) ≡ history xs ++ history ys
 history-append [] ys = refl
@@ -28,27 +23,25 @@ pub record Answered (start : MonitorModel) (old now : List Record) (i : ℕ) (m 
 pub answered-none : (start : MonitorModel) (old : List Record) → Answered start old old 0 start
 answered-none start old = record { answers = refl; left = refl; rest = refl }
 
-pub answered-more : (start m m′ : MonitorModel) (old now : List Record) (i : ℕ) (e : Event) (a : Result ℕ MonitorRefusal) (d : Record) → i < length now → e ≡ getD now i d .event
-    → reply (λ n. n) monitor-refusal a ≡ answer-to e m → m′ ≡ after e m → Answered start old now i m
-    → Answered start old (set now i (record { event = e; answer = Some a })) (i + 1) m′
-answered-more start m m′ old now i e a d h same said then inv =
-    let told : Record = record { event = e; answer = Some a } in
+pub answered-more : (start m m′ : MonitorModel) (old now : List Record) (i : ℕ) (r d : Record) → i < length now → r .event ≡ getD now i d .event
+    → heard (r .event) (r .answer) ≡ observation (getD now i d .event) m ∷ [] → m′ ≡ after (getD now i d .event) m → Answered start old now i m
+    → Answered start old (set now i r) (i + 1) m′
+answered-more start m m′ old now i r d h same said then inv =
+    let e = getD now i d .event in
     let before = history (take i now) in
     let later : drop (i + 1) now ≡ drop (i + 1) old = sym (drop-drop 1 i now) ∙ ap (drop 1) (inv .rest) ∙ drop-drop 1 i old in
     let es = events (drop (i + 1) old) in
-    let here : events (drop i old) ≡ e ∷ es =
-    ap events (sym (inv .rest) ∙ drop-more now i d h) ∙ ap (λ x. x ∷ events (drop (i + 1) now)) (sym same) ∙ ap (λ rs. e ∷ events rs) later in
+    let here : events (drop i old) ≡ e ∷ es = ap events (sym (inv .rest) ∙ drop-more now i d h) ∙ ap (λ rs. e ∷ events rs) later in
     record {
       answers =
-          ap (λ rs. history rs ++ observations m′ es) (take-more-set now i told h)
-          ∙ ap (λ os. os ++ observations m′ es) (history-append (take i now) (told ∷ []))
-          ∙ append-assoc before (record { event = e; answer = reply (λ n. n) monitor-refusal a } ∷ []) (observations m′ es)
-          ∙ ap (λ r. before ++ (record { event = e; answer = r } ∷ observations m′ es)) said
-          ∙ ap (λ n. before ++ (record { event = e; answer = answer-to e m } ∷ observations n es)) then
-          ∙ sym (ap (λ ds. before ++ observations m ds) here)
-          ∙ inv .answers;
+        ap (λ rs. history rs ++ observations m′ es) (take-more-set now i r h)
+        ∙ ap (λ os. os ++ observations m′ es) (history-append (take i now) (r ∷ []) ∙ ap (λ os. before ++ (os ++ [])) said)
+        ∙ append-assoc before (observation e m ∷ []) (observations m′ es)
+        ∙ ap (λ n. before ++ (observation e m ∷ observations n es)) then
+        ∙ sym (ap (λ ds. before ++ observations m ds) here)
+        ∙ inv .answers;
       left = ap (λ n. after-all n es) then ∙ sym (ap (after-all m) here) ∙ inv .left;
-      rest = drop-set-lt (i + 1) now i told (omega arith) ∙ later;
+      rest = drop-set-lt (i + 1) now i r (omega arith) ∙ later
     }
 
 pub answered-all : (start m : MonitorModel) (old now : List Record) (i : ℕ) → length now ≤ i → length now ≡ length old → Answered start old now i m

@@ -30,10 +30,14 @@ abbrev pub history : List Record → List Observation
 history [] = []
 history (r ∷ rs) = heard (r .event) (r .answer) ++ history rs
 
+-- an event with the answer of this monitor
+abbrev pub observation : Event → MonitorModel → Observation
+observation e m = record { event = e; answer = answer-to e m }
+
 -- what the monitor answers to these events, one after another
 abbrev pub observations : MonitorModel → List Event → List Observation
 observations m [] = []
-observations m (e ∷ es) = record { event = e; answer = answer-to e m } ∷ observations (after e m) es
+observations m (e ∷ es) = observation e m ∷ observations (after e m) es
 
 -- the monitor that they leave
 abbrev pub after-all : MonitorModel → List Event → MonitorModel

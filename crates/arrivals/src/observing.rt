@@ -1,12 +1,24 @@
 // A whole list of events, each with its answer written beside it.
+ghost use mathlib.Core.List.{[], _∷_};
 ghost use mathlib.Core.Path.{_≡_};
-ghost use Rattle.arrivals.specs.Monitor.{fresh, monitor-of};
-ghost use Rattle.arrivals.specs.Runs.{after-all, events, history, observations};
+ghost use Rattle.arrivals.specs.Monitor.{after, fresh, monitor-of};
+ghost use Rattle.arrivals.specs.Runs.{after-all, events, heard, history, observation, observations};
 ghost use Rattle.arrivals.specs.Windows.{All-admitted-rightly};
 ghost use Rattle.tasks.specs.Task.{task-of};
 use crate::monitor::Monitor;
 use crate::record::Record;
 use tasks::Task;
+
+impl Record {
+    // Brings the event to the monitor, and keeps the answer.
+    fn bring(&mut self, monitor: &mut Monitor)
+        ensures event { λ _. ⌜ now (self .exit) .event ≡ now (self .entry) .event ⌝ }
+        ensures answer { λ _. ⌜ heard (now (self .exit) .event) (now (self .exit) .answer) ≡ observation (now (self .entry) .event) (monitor-of (now (monitor .entry))) ∷ [] ⌝ }
+        ensures left { λ _. ⌜ monitor-of (now (monitor .exit)) ≡ after (now (self .entry) .event) (monitor-of (now (monitor .entry))) ⌝ }
+    {
+        self.answer = Some(monitor.serve(self.event));
+    }
+}
 
 // Brings the events of the records, in their order, to a fresh monitor of the task, and writes the answers into the records.
 // The answer is the monitor as the last event left it. An arrival is taken exactly when the arrivals taken before, with it,
@@ -18,7 +30,7 @@ pub fn observe(task: &Task, records: &mut [Record]) -> Monitor
 {
     let mut monitor = Monitor::new(task);
     for record in records.iter_mut() {
-        record.answer = Some(monitor.serve(record.event));
+        record.bring(&mut monitor);
     }
     monitor
 }

@@ -21,8 +21,8 @@ loop-record-holds c =
 pub loop-record-again : need.loop-record-again
 loop-record-again c =
     let none : Record = record { event = Arrival; answer = None } in
-    answered-more _ (monitor-of (c .loop-record .monitor)) _ (c .args .records .now) (c .loop-record .records) (c .loop-record .record-index) _ _ none (omega arith) refl
-    (c .serve .ensures .answer) (c .serve .ensures .left) (c .loop-record .inv)
+    answered-more _ (monitor-of (c .loop-record .monitor)) _ (c .args .records .now) (c .loop-record .records) (c .loop-record .record-index) _ none (omega arith)
+    (c .bring .ensures .event) (c .bring .ensures .answer) (c .bring .ensures .left) (c .loop-record .inv)
 
 pub returns : need.returns
 returns c =
