@@ -34,14 +34,14 @@ answered-more start m m′ old now i r d h same said then inv =
     let here : events (drop i old) ≡ e ∷ es = ap events (sym (inv .rest) ∙ drop-more now i d h) ∙ ap (λ rs. e ∷ events rs) later in
     record {
       answers =
-        ap (λ rs. history rs ++ observations m′ es) (take-more-set now i r h)
-        ∙ ap (λ os. os ++ observations m′ es) (history-append (take i now) (r ∷ []) ∙ ap (λ os. before ++ (os ++ [])) said)
-        ∙ append-assoc before (observation e m ∷ []) (observations m′ es)
-        ∙ ap (λ n. before ++ (observation e m ∷ observations n es)) then
-        ∙ sym (ap (λ ds. before ++ observations m ds) here)
-        ∙ inv .answers;
+          ap (λ rs. history rs ++ observations m′ es) (take-more-set now i r h)
+          ∙ ap (λ os. os ++ observations m′ es) (history-append (take i now) (r ∷ []) ∙ ap (λ os. before ++ (os ++ [])) said)
+          ∙ append-assoc before (observation e m ∷ []) (observations m′ es)
+          ∙ ap (λ n. before ++ (observation e m ∷ observations n es)) then
+          ∙ sym (ap (λ ds. before ++ observations m ds) here)
+          ∙ inv .answers;
       left = ap (λ n. after-all n es) then ∙ sym (ap (after-all m) here) ∙ inv .left;
-      rest = drop-set-lt (i + 1) now i r (omega arith) ∙ later
+      rest = drop-set-lt (i + 1) now i r (omega arith) ∙ later;
     }
 
 pub answered-all : (start m : MonitorModel) (old now : List Record) (i : ℕ) → length now ≤ i → length now ≡ length old → Answered start old now i m

@@ -7,6 +7,7 @@ mod counting;
 mod monitor;
 mod monitoring;
 mod observing;
+mod questions;
 mod record;
 mod refusal;
 mod stepping;

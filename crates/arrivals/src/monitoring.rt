@@ -1,8 +1,6 @@
 // What a monitor does with each event.
 ghost use mathlib.Core.Path.{_≡_};
-ghost use Rattle.arrivals.specs.Bucket.{arrivals-within};
 ghost use Rattle.arrivals.specs.Monitor.{after, answer-to, fresh, monitor-of, monitor-refusal};
-ghost use Rattle.arrivals.specs.Windows.{Bounds-arrivals};
 ghost use Rattle.arrivals.specs.declared.counter.Event.the-variants.{Arrival, Tick};
 ghost use Rattle.tasks.specs.Reply.{reply};
 ghost use Rattle.tasks.specs.Task.{task-of};
@@ -25,13 +23,6 @@ impl Monitor {
             counters: Counters::new(task),
             clock: 0,
         }
-    }
-
-    // The instant that the clock reads.
-    pub fn clock(&self) -> u64
-        ensures { λ r. ⌜ r ≡ monitor-of (now (self .entry)) .clock ⌝ }
-    {
-        self.clock
     }
 
     // A job arrives. The answer is its due clock, or that a staircase allows no arrival now.
@@ -66,26 +57,6 @@ impl Monitor {
         match event {
             Event::Arrival => self.arrive(),
             Event::Tick => self.tick(),
-        }
-    }
-
-    // The arrivals that are still possible at the `instants` instants that begin now: whatever follows, no more are taken.
-    pub fn arrivals_within(&self, instants: u32) -> u64
-        ensures bound { λ r. ⌜ Bounds-arrivals (monitor-of (now (self .entry))) instants r ⌝ }
-        ensures value { λ r. ⌜ r ≡ arrivals-within instants (monitor-of (now (self .entry)) .buckets) ⌝ }
-    {
-        self.counters.arrivals_within(instants)
-    }
-}
-
-impl MonitorRefusal {
-    // The number under which the manual lists the refusal.
-    pub fn number(&self) -> u64
-        ensures { λ r. ⌜ r ≡ monitor-refusal (now (self .entry)) .number ⌝ }
-    {
-        match self {
-            MonitorRefusal::NoToken { .. } => 10,
-            MonitorRefusal::ClockAtEnd => 12,
         }
     }
 }

@@ -1,7 +1,5 @@
-ghost use mathlib.Core.List.{[], map};
+ghost use mathlib.Core.List.{[]};
 ghost use mathlib.Core.Path.{_≡_};
-ghost use Prim.Native.Nat.{_≤_};
-ghost use lib.ListN.{length};
 ghost use Rattle.tasks.specs.Draft.{draft-of, entered, entering, entry-answer};
 ghost use Rattle.tasks.specs.Making.{making, making-periodic};
 ghost use Rattle.tasks.specs.Quantity.{entry-refusal};
@@ -21,14 +19,6 @@ impl Draft {
         Draft {
             tasks: Bounded::new(Task::least()),
         }
-    }
-
-    // The tasks, the one with the highest priority first.
-    pub fn tasks(&self) -> &[Task]
-        ensures value { λ r. ⌜ map task-of (now r) ≡ draft-of (now (self .entry)) ⌝ }
-        ensures bound { λ r. ⌜ length (now r) ≤ 8 ⌝ }
-    {
-        self.tasks.as_slice()
     }
 
     // Adds the task of these numbers behind the others, and answers its number; each staircase is a pair of burst and step.

@@ -3,7 +3,7 @@
 mod draft;
 mod entering;
 mod making;
-mod reading;
+mod questions;
 mod refusal;
 mod staircase;
 mod task;

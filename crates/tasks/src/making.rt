@@ -87,6 +87,7 @@ impl Task {
             staircases,
         })
     }
+
     // A task whose arrivals are at least `distance` apart, and each at most `jitter` late for its turn in a period.
     pub fn periodic(
         limit: u64,

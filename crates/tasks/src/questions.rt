@@ -1,9 +1,13 @@
-// What a task and a refusal tell of themselves.
-ghost use mathlib.Core.Bool.{cond};
+// What a draft, a task and a refusal tell of themselves.
+ghost use mathlib.Core.List.{map};
 ghost use mathlib.Core.Path.{_≡_};
+ghost use Prim.Native.Nat.{_≤_};
+ghost use lib.ListN.{length};
+ghost use Rattle.tasks.specs.Draft.{draft-of};
 ghost use Rattle.tasks.specs.Quantity.{entry-refusal};
 ghost use Rattle.tasks.specs.Staircase.{long-staircase, longer, staircase-of};
 ghost use Rattle.tasks.specs.Task.{share, task-of};
+use crate::draft::Draft;
 use crate::refusal::EntryRefusal;
 use crate::staircase::Staircase;
 use crate::task::Task;
@@ -14,6 +18,16 @@ impl Staircase {
         ensures { λ r. ⌜ r ≡ longer (staircase-of self) (staircase-of other) ⌝ }
     {
         self.step > other.step || self.step == other.step && self.burst < other.burst
+    }
+}
+
+impl Draft {
+    // The tasks, the one with the highest priority first.
+    pub fn tasks(&self) -> &[Task]
+        ensures value { λ r. ⌜ map task-of (now r) ≡ draft-of (now (self .entry)) ⌝ }
+        ensures bound { λ r. ⌜ length (now r) ≤ 8 ⌝ }
+    {
+        self.tasks.as_slice()
     }
 }
 
