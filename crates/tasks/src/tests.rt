@@ -23,19 +23,37 @@ fn first_wrong_number_is_named() -> Result<(), Fail> {
     check_eq(entered(0, 0, &[]), out_of_range(Quantity::Limit))?;
     check_eq(entered(65, 9, &[(1, 9)]), out_of_range(Quantity::Limit))?;
     check_eq(entered(64, 0, &[]), out_of_range(Quantity::Deadline))?;
-    check_eq(entered(64, 1025, &[(1, 9)]), out_of_range(Quantity::Deadline))?;
+    check_eq(
+        entered(64, 1025, &[(1, 9)]),
+        out_of_range(Quantity::Deadline),
+    )?;
     check_eq(entered(64, 1024, &[]), out_of_range(Quantity::Count))?;
-    check_eq(entered(1, 1, &[(1, 1), (1, 1), (1, 1), (1, 1), (1, 1)]), out_of_range(Quantity::Count))?;
-    check_eq(entered(1, 1, &[(1, 0), (0, 1)]), out_of_range(Quantity::Step(1)))?;
-    check_eq(entered(1, 1, &[(8, 4096), (9, 4097)]), out_of_range(Quantity::Burst(2)))?;
-    check_eq(entered(1, 1, &[(8, 4096), (8, 4097)]), out_of_range(Quantity::Step(2)))?;
+    check_eq(
+        entered(1, 1, &[(1, 1), (1, 1), (1, 1), (1, 1), (1, 1)]),
+        out_of_range(Quantity::Count),
+    )?;
+    check_eq(
+        entered(1, 1, &[(1, 0), (0, 1)]),
+        out_of_range(Quantity::Step(1)),
+    )?;
+    check_eq(
+        entered(1, 1, &[(8, 4096), (9, 4097)]),
+        out_of_range(Quantity::Burst(2)),
+    )?;
+    check_eq(
+        entered(1, 1, &[(8, 4096), (8, 4097)]),
+        out_of_range(Quantity::Step(2)),
+    )?;
     check_eq(entered(64, 1024, &[(8, 4096), (1, 1024)]), Ok(1))
 }
 
 #[test]
 fn at_most_eight_jobs_may_be_pending() -> Result<(), Fail> {
     check_eq(entered(1, 10, &[(8, 10)]), Ok(1))?;
-    check_eq(entered(1, 11, &[(8, 10)]), Err(EntryRefusal::TooManyPending))?;
+    check_eq(
+        entered(1, 11, &[(8, 10)]),
+        Err(EntryRefusal::TooManyPending),
+    )?;
     check_eq(entered(1, 11, &[(8, 10), (1, 2)]), Ok(1))
 }
 
@@ -43,10 +61,22 @@ fn at_most_eight_jobs_may_be_pending() -> Result<(), Fail> {
 fn period_gives_two_staircases() -> Result<(), Fail> {
     let mut draft = Draft::new();
     check_eq(draft.enter_periodic(3, 50, 100, 300, 20), Ok(1))?;
-    check_eq(draft.enter_periodic(1, 50, 0, 32769, 0), out_of_range(Quantity::Period))?;
-    check_eq(draft.enter_periodic(1, 50, 100, 32769, 0), out_of_range(Quantity::Jitter))?;
-    check_eq(draft.enter_periodic(1, 50, 100, 32768, 0), out_of_range(Quantity::Distance))?;
-    check_eq(draft.enter_periodic(1, 50, 100, 800, 20), out_of_range(Quantity::Burst(2)))?;
+    check_eq(
+        draft.enter_periodic(1, 50, 0, 32769, 0),
+        out_of_range(Quantity::Period),
+    )?;
+    check_eq(
+        draft.enter_periodic(1, 50, 100, 32769, 0),
+        out_of_range(Quantity::Jitter),
+    )?;
+    check_eq(
+        draft.enter_periodic(1, 50, 100, 32768, 0),
+        out_of_range(Quantity::Distance),
+    )?;
+    check_eq(
+        draft.enter_periodic(1, 50, 100, 800, 20),
+        out_of_range(Quantity::Burst(2)),
+    )?;
     for task in draft.tasks() {
         let staircases = task.staircases.as_slice();
         check(staircases.len() == 2)?;
