@@ -1,11 +1,15 @@
--- A walk along the staircases that keeps the longest one so far.
+-- A walk along the staircases that keeps the longest one so far, and what it comes to.
 use mathlib.Core.Bool.{Bool, true, false, cond}
 use mathlib.Core.List.{List, [], _∷_, map}
+use mathlib.Core.Logic.{inl, inr}
 use mathlib.Core.Path.{_≡_, refl, sym, ap, _∙_}
 use native.Mathlib.Omega.{arith}
 use Prim.Native.Nat.{ℕ, _+_, _<_, _≤_}
 use lib.ListN.{drop, getD, length}
 use Rattle.std.proofs.shelf.Lists.{at-drop-all, at-drop-more}
+use Rattle.std.proofs.shelf.Tests.{cases-cond, cond-both}
+use Rattle.std.proofs.shelf.Ways.{tells}
+use Rattle.tasks.specs.LongStaircase.{Long-of, One-of}
 use Rattle.tasks.specs.Staircase.{StaircaseModel, long-staircase, longer, longest}
 
 same-either : {A : Type 0} (b : Bool) (x : A) → cond b x x ≡ x
@@ -26,3 +30,36 @@ module _ {X : Type 0} (view : X → StaircaseModel) where
 
   pub longest-all : (xs : List X) (y : X) (i : ℕ) (l : StaircaseModel) → length xs ≤ i → longest (view y) (map view (drop i xs)) ≡ l → view y ≡ l
   longest-all xs y i l h inv = sym (at-drop-all (λ ys. longest (view y) (map view ys)) xs i h) ∙ inv
+
+-- x is no longer than s, so it is no longer than what is longer than s
+no-longer : (x t s : StaircaseModel) → longer x s ≡ false → longer t s ≡ true → longer x t ≡ false
+no-longer x t s h k = grind (arith, tells)
+
+not-itself : (s : StaircaseModel) → longer s s ≡ false
+not-itself s = grind (arith, tells)
+
+still-no-longer : (x s : StaircaseModel) (ss : List StaircaseModel) → longer x s ≡ false → longer x (longest s ss) ≡ false
+still-no-longer x s [] h = h
+still-no-longer x s (t ∷ ts) h =
+    still-no-longer x (cond (longer t s) t s) ts (cond-both (longer t s) t s (λ u. longer x u ≡ false) (no-longer x t s h) (λ _. h))
+
+longest-most : (s : StaircaseModel) (ss : List StaircaseModel) (t : StaircaseModel) → One-of t (s ∷ ss) → longer t (longest s ss) ≡ false
+longest-most s ss t (inl e) = still-no-longer t s ss (ap (λ u. longer u s) e ∙ not-itself s)
+longest-most s [] t (inr m) = absurd m
+longest-most s (u ∷ us) t (inr (inl e)) =
+    still-no-longer t (cond (longer u s) u s) us
+    (ap (λ x. longer x (cond (longer u s) u s)) e ∙ cond-both (longer u s) u s (λ x. longer u x ≡ false) (λ _. not-itself u) (λ h. h))
+longest-most s (u ∷ us) t (inr (inr m)) = longest-most (cond (longer u s) u s) us t (inr m)
+
+longest-own : (s : StaircaseModel) (ss : List StaircaseModel) → One-of (longest s ss) (s ∷ ss)
+longest-own s [] = inl refl
+longest-own s (t ∷ ts) =
+    elim (longest-own (cond (longer t s) t s) ts) [
+      | inl e ↦ elim (cases-cond (longer t s) t s (longest (cond (longer t s) t s) ts) e) [ inl a ↦ inr (inl a) | inr b ↦ inl b ]
+      | inr m ↦ inr (inr m)
+    ]
+
+-- the long staircase of a task that has one
+pub long-of : (ss : List StaircaseModel) → 0 < length ss → Long-of ss (long-staircase ss)
+long-of [] h = absurd (omega arith)
+long-of (s ∷ ss) h = record { own = longest-own s ss; most = longest-most s ss }

@@ -4,6 +4,7 @@ ghost use mathlib.Core.Path.{_≡_};
 ghost use Prim.Native.Nat.{_≤_};
 ghost use lib.ListN.{length};
 ghost use Rattle.tasks.specs.Draft.{draft-of};
+ghost use Rattle.tasks.specs.LongStaircase.{Long-of};
 ghost use Rattle.tasks.specs.Quantity.{entry-refusal};
 ghost use Rattle.tasks.specs.Staircase.{long-staircase, longer, staircase-of};
 ghost use Rattle.tasks.specs.Task.{share, task-of};
@@ -34,7 +35,8 @@ impl Draft {
 impl Task {
     // The staircase with the largest step; among equal steps the one with the smaller burst.
     pub fn long_staircase(&self) -> Staircase
-        ensures { λ r. ⌜ staircase-of r ≡ long-staircase (task-of (now (self .entry)) .staircases) ⌝ }
+        ensures value { λ r. ⌜ staircase-of r ≡ long-staircase (task-of (now (self .entry)) .staircases) ⌝ }
+        ensures long { λ r. ⌜ Long-of (task-of (now (self .entry)) .staircases) (staircase-of r) ⌝ }
     {
         let staircases = self.staircases.as_slice();
         let mut longest = staircases[0];

@@ -1,10 +1,15 @@
 use borrow.Author.Needs.{needs}
 use mathlib.Core.Bool.{cond}
 use mathlib.Core.List.{map}
-use mathlib.Core.Path.{_≡_, sym, ap, _∙_}
+use mathlib.Core.Path.{_≡_, sym, ap, subst, _∙_}
+use Prim.Native.Nat.{_<_}
+use lib.ListN.{length}
+use Rattle.std.proofs.shelf.Lists.{length-map}
 use Rattle.std.proofs.shelf.Tests.{cond-false, cond-true}
+use Rattle.bounded.specs.List.{items}
+use Rattle.tasks.specs.LongStaircase.{Long-of}
 use Rattle.tasks.specs.Staircase.{long-staircase, longer, staircase-of}
-use Rattle.tasks.proofs.Longest.{longest-all, longest-more, longest-start}
+use Rattle.tasks.proofs.Longest.{long-of, longest-all, longest-more, longest-start}
 use Rattle.tasks.proofs.task.Task.long_staircase.Needs as need
 use Rattle.tasks.proofs.task.Task.long_staircase.Needs.{else-is-longer-than, then-is-longer-than}
 
@@ -25,5 +30,9 @@ loop-staircase-again c =
 
 pub returns : need.returns
 returns c =
+    let ss = map staircase-of (items (c .args .self .now .staircases)) in
+    let found =
     longest-all staircase-of (c .as-slice-staircases .result .now) (c .loop-staircase .longest) (c .loop-staircase .staircase-index) _ (c .loop-staircase-test .left) (c .loop-staircase .inv)
-    ∙ ap (λ ss. long-staircase (map staircase-of ss)) (c .as-slice-staircases .ensures .value)
+    ∙ ap (λ ts. long-staircase (map staircase-of ts)) (c .as-slice-staircases .ensures .value) in
+    let some : 0 < length ss = rw length-map (c .args .self .now .«bounded_arrivals») in
+    record { value = found; long = subst (Long-of ss) (sym found) (long-of ss some) }
