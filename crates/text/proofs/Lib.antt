@@ -1,0 +1,9 @@
+pub mod Replies
+pub mod Numerals
+pub mod WrittenBack
+pub mod ReadsBack
+pub mod Scans
+pub mod Fields
+pub mod Entries
+pub mod Tables
+pub mod Puts

@@ -1,0 +1,5 @@
+pub mod Writing
+pub mod Reading
+pub mod RoundTrip
+pub mod Fault
+pub mod Views

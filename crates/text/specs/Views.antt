@@ -1,0 +1,45 @@
+-- What the values that the reader works with stand for.
+use denote.Ref.{now}
+use mathlib.Core.Bool.{cond}
+use mathlib.Core.List.{List, [], _∷_}
+use Prim.Native.Nat.{ℕ, _-_}
+use lib.ListN.{drop}
+use Rattle.bounded.specs.List.{items}
+use Rattle.std.specs.declared.option.Option.{Option}
+use Rattle.std.specs.declared.option.Option.the-variants.{None, Some}
+use Rattle.std.specs.declared.result.Result.{Result}
+use Rattle.std.specs.declared.result.Result.the-variants.{Err, Ok}
+use Rattle.tasks.specs.Reply.{Reply, refused, served}
+use Rattle.text.specs.Fault.{numeral-refusal}
+use Rattle.text.specs.Reading.{Numbers, fault, is-digit}
+use Rattle.text.specs.declared.cursor.Cursor.{Cursor}
+use Rattle.text.specs.declared.fault.AtLine.{AtLine}
+use Rattle.text.specs.declared.fault.NumeralFault.{NumeralFault}
+use Rattle.text.specs.declared.numbers.LineNumbers.{LineNumbers}
+
+-- the bytes that a cursor reads
+abbrev pub bytes-of : Cursor → List ℕ
+bytes-of c = now (c .bytes)
+
+-- those of them that are left
+abbrev pub left-of : Cursor → List ℕ
+left-of c = drop (c .at) (now (c .bytes))
+
+-- the digit in front, if one is there
+abbrev pub digit-of : List ℕ → Option ℕ
+digit-of [] = None
+digit-of (b ∷ bs) = cond (is-digit b) (Some (b - 48)) None
+
+-- what the reading of a field tells: nothing where the first byte left is not allowed, or else a numeral or its fault
+abbrev pub field-reply : Option (Result ℕ NumeralFault) → List ℕ → List ℕ → Reply (ℕ × List ℕ)
+field-reply None line left = refused (fault 18 line left)
+field-reply (Some (Ok n)) line left = served (n, left)
+field-reply (Some (Err f)) line left = refused (numeral-refusal f)
+
+abbrev pub numbers-of : LineNumbers → Numbers
+numbers-of n = record { limit = n .limit; deadline = n .deadline; staircases = items (n .staircases) }
+
+-- a result whose fault gets the place of its line
+abbrev pub at-line : {T F : Type 0} → ℕ → ℕ → Result T F → Result T (AtLine F)
+at-line number start (Ok x) = Ok x
+at-line number start (Err f) = Err (record { number = number; start = start; fault = f })

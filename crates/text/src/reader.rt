@@ -1,0 +1,46 @@
+ghost use mathlib.Core.List.{[]};
+ghost use mathlib.Core.Path.{_≡_};
+ghost use Prim.Native.Nat.{_≤_};
+ghost use lib.ListN.{length};
+ghost use Rattle.tasks.specs.Draft.{draft-of};
+ghost use Rattle.tasks.specs.Reply.{reply};
+ghost use Rattle.text.specs.Fault.{table-refusal};
+ghost use Rattle.text.specs.Reading.{lines, read-after, reading};
+ghost use Rattle.text.specs.RoundTrip.{Written-back};
+use crate::fault::TableFault;
+use crate::fault::TableFaultFromLine;
+use crate::fault::placed;
+use crate::line::enter_line;
+use tasks::Draft;
+
+// The bytes of the longest text that is read.
+const LONGEST: usize = 4_096;
+
+// Reads a table into the draft, in the place of what it held. A text that is refused leaves the draft as it was.
+pub fn read_table(draft: &mut Draft, text: &[u8]) -> Result<(), TableFault>
+    ensures answer { λ r. ⌜ reply (λ _. draft-of (now (draft .exit))) table-refusal r ≡ reading (now (text .entry)) ⌝ }
+    ensures after { λ _. ⌜ draft-of (now (draft .exit)) ≡ read-after (draft-of (now (draft .entry))) (reading (now (text .entry))) ⌝ }
+    ensures written_back { λ _. ⌜ Written-back (now (text .entry)) ⌝ }
+{
+    if text.len() > LONGEST {
+        return Err(TableFault::TooLong);
+    }
+    *draft = read_lines(text)?;
+    Ok(())
+}
+
+// The tasks of the lines.
+fn read_lines(text: &[u8]) -> Result<Draft, TableFault>
+    requires { ⌜ length (now text) ≤ 4096 ⌝ }
+    ensures { λ r. ⌜ reply draft-of table-refusal r ≡ lines (length (now (text .entry))) 1 [] (now (text .entry)) (now (text .entry)) ⌝ }
+{
+    let mut draft = Draft::new();
+    let mut number = 1;
+    let mut start = 0;
+    while start < text.len() {
+        let length = placed(enter_line(&mut draft, &text[start..]), number, start)?;
+        number += 1;
+        start += length;
+    }
+    Ok(draft)
+}
