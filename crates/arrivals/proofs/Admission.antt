@@ -1,5 +1,5 @@
 -- In every run from a fresh monitor each arrival is taken exactly when the staircases allow it.
-use mathlib.Core.List.{List, [], _∷_, _++_, append-assoc, map}
+use mathlib.Core.List.{List, [], _∷_, _++_, append-assoc}
 use mathlib.Core.Logic.{_↔_, inl, inr}
 use mathlib.Core.Path.{_≡_, refl, sym, ap, _∙_, subst}
 use Prim.Native.Nat.{ℕ, _+_, _≤_}
@@ -14,7 +14,6 @@ use Rattle.tasks.specs.Task.{TaskModel}
 use Rattle.arrivals.proofs.Each.{first-not-each}
 use Rattle.arrivals.proofs.Tokens.{Has-token, arrival-cases, taken-has-tokens}
 use Rattle.arrivals.proofs.Tracking.{All-tracked, first-window, staircases-after, staircases-full, staircases-of, tokens-windows, tracked-arrival, tracked-fresh, tracked-tick}
-use Rattle.arrivals.specs.Bucket.{bucket-after}
 use Rattle.arrivals.specs.Clock.{last-reading}
 use Rattle.arrivals.specs.Monitor.{MonitorModel, after, answer-to, fresh, left-by}
 use Rattle.arrivals.specs.Runs.{Observation, count-ticked, observations, ticks-served}

@@ -1,12 +1,11 @@
 -- A search for the first staircase without a token.
 use mathlib.Core.Bool.{true, false, cond}
-use mathlib.Core.List.{List, [], _∷_, map}
-use mathlib.Core.Path.{_≡_, refl, sym, ap, _∙_}
+use mathlib.Core.List.{List, _∷_, map}
+use mathlib.Core.Path.{_≡_, sym, ap, _∙_}
 use Prim.Native.Nat.{ℕ, _+_, _<_, _≤_}
 use lib.ListN.{drop, getD, length}
 use Rattle.std.proofs.shelf.Lists.{at-drop-all, at-drop-more}
 use Rattle.std.proofs.shelf.Tests.{cond-false, cond-true}
-use Rattle.std.specs.declared.option.Option.{Option}
 use Rattle.std.specs.declared.option.Option.the-variants.{None, Some}
 use Rattle.arrivals.specs.Bucket.{BucketModel, first-empty, has-token}
 

@@ -1,5 +1,5 @@
 -- What a monitor promises in the words of the subject: instants, windows and staircases; it does not mention counters.
-use mathlib.Core.Bool.{Bool, cond, _&&_}
+use mathlib.Core.Bool.{cond, _&&_}
 use mathlib.Core.List.{List, [], _∷_, _++_}
 use mathlib.Core.Logic.{_↔_}
 use mathlib.Core.Path.{_≡_}
@@ -8,7 +8,6 @@ use lib.Dec.{leb}
 use Rattle.tasks.specs.Reply.{Refusal, Reply, refused, served}
 use Rattle.tasks.specs.Staircase.{StaircaseModel, allowed-in}
 use Rattle.tasks.specs.Task.{TaskModel}
-use Rattle.arrivals.specs.Bucket.{arrivals-within}
 use Rattle.arrivals.specs.Monitor.{MonitorModel}
 use Rattle.arrivals.specs.Runs.{Observation, arrivals-taken, count-ticked, observations, ticks-served}
 use Rattle.arrivals.specs.declared.counter.Event.{Event}

@@ -1,7 +1,6 @@
 // How an event changes a counter, in place.
 ghost use mathlib.Core.Bool.{true};
 ghost use mathlib.Core.Path.{_≡_};
-ghost use Prim.Native.Nat.{_<_, _^_};
 ghost use Rattle.arrivals.specs.Bucket.{BucketModel, bucket-after, bucket-allows, bucket-of, full, has-token};
 ghost use Rattle.arrivals.specs.Counter.{counter-after, sound};
 ghost use Rattle.tasks.specs.Staircase.{staircase-of};

@@ -5,7 +5,7 @@ use Prim.Native.Nat.{ℕ, zero, suc, _+_, _<_, _≤_}
 use native.Mathlib.Omega.{arith}
 use lib.ListN.{length, take, drop, set, getD}
 use Rattle.std.proofs.shelf.Edits.{map-over-more}
-use Rattle.std.proofs.shelf.Lists.{append-nil, drop-all, getD-map, getD-take, length-map, length-take-le, map-set, take-all}
+use Rattle.std.proofs.shelf.Lists.{append-nil, drop-all, getD-map, getD-take, length-take-le, map-set, take-all}
 
 pub set-take : {X : Type 0} (n i : ℕ) (s : List X) (y : X) → take n (set s i y) ≡ set (take n s) i y
 set-take zero i s y = refl

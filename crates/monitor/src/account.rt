@@ -18,7 +18,10 @@ pub(crate) fn print_tasks(rt: &impl Print, draft: &Draft) -> io::Result<()> {
         let number = i + 1;
         let limit = task.limit;
         let deadline = task.deadline;
-        print!(rt, "task {number}: limit {limit}, deadline {deadline}, staircases")?;
+        print!(
+            rt,
+            "task {number}: limit {limit}, deadline {deadline}, staircases"
+        )?;
         print_staircases(rt, task.staircases.as_slice())?;
         print!(rt, ", long staircase")?;
         print_staircases(rt, &[task.long_staircase()])?;

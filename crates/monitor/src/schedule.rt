@@ -16,7 +16,10 @@ fn wait(records: &mut Vec<Record>, ticks: u64) -> Result<(), AllocError>
     ensures { λ r. ⌜ made r (λ _. events (vec-items (now (records .exit))) ≡ events (vec-items (now (records .entry))) ++ replicate ticks Tick) ⌝ }
 {
     for _ in 0..ticks {
-        records.push(Record { event: Event::Tick, answer: None })?;
+        records.push(Record {
+            event: Event::Tick,
+            answer: None,
+        })?;
     }
     Ok(())
 }
@@ -29,7 +32,10 @@ pub(crate) fn schedule(heap: Global, instants: &[u64]) -> Result<Vec<Record>, Al
     let mut clock = 0;
     for instant in instants {
         wait(&mut records, instant.saturating_sub(clock))?;
-        records.push(Record { event: Event::Arrival, answer: None })?;
+        records.push(Record {
+            event: Event::Arrival,
+            answer: None,
+        })?;
         clock = clock.max(*instant);
     }
     Ok(records)

@@ -1,6 +1,6 @@
 -- A staircase bound on arrivals, by its two numbers.
 use mathlib.Core.Bool.{Bool, cond, _&&_, _||_}
-use mathlib.Core.List.{List, [], _∷_, map}
+use mathlib.Core.List.{List, [], _∷_}
 use Prim.Native.Nat.{ℕ, _+_, _-_, _/_}
 use lib.Dec.{eqb, ltb}
 use Rattle.tasks.specs.Least.{least}

@@ -7,7 +7,7 @@ use Rattle.tasks.specs.Making.{making}
 use Rattle.tasks.specs.Reply.{Refusal, Reply, refused, served}
 use Rattle.tasks.specs.Task.{TaskModel}
 use Rattle.text.proofs.Replies.{not-served, then-not, then-on}
-use Rattle.text.specs.Reading.{Numbers, entry-fault, entry-made, line-entered, numbers}
+use Rattle.text.specs.Line.{Numbers, entry-fault, entry-made, line-entered, numbers}
 
 pub line-refused : (ts : List TaskModel) (bs cs : List ℕ) (r : Refusal) → cs ≡ bs → refused r ≡ numbers cs → line-entered ts bs ≡ refused r
 unfolding line-entered

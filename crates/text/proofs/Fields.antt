@@ -18,7 +18,9 @@ use Rattle.std.specs.declared.result.Result.the-variants.{Err, Ok}
 use Rattle.tasks.specs.Reply.{Refusal, Reply, refused, reply, served, then}
 use Rattle.text.proofs.Replies.{then-not, then-on}
 use Rattle.text.specs.Fault.{line-refusal, numeral-refusal}
-use Rattle.text.specs.Reading.{expect, expect-all, fault, field, numbers, staircase, staircases, staircases-after, starts}
+use Rattle.text.specs.Bytes.{expect, expect-all, fault, starts}
+use Rattle.text.specs.Line.{numbers, staircase, staircases, staircases-after}
+use Rattle.text.specs.Numeral.{field}
 use Rattle.text.specs.Views.{field-reply}
 use Rattle.text.specs.Writing.{task-word}
 use Rattle.text.specs.declared.fault.LineFault.{LineFault}

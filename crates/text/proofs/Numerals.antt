@@ -16,7 +16,8 @@ use Rattle.std.proofs.shelf.Ways.{tells}
 use Rattle.std.specs.Written.{decimal}
 use Rattle.tasks.specs.Reply.{served}
 use Rattle.text.proofs.Replies.{not-served, served-if, served-unless, then-served}
-use Rattle.text.specs.Reading.{expect, field, is-digit, leading-digits, not-allowed, number-after, numeral, numeral-of}
+use Rattle.text.specs.Bytes.{expect}
+use Rattle.text.specs.Numeral.{field, is-digit, leading-digits, not-allowed, number-after, numeral, numeral-of}
 use Rattle.text.specs.Writing.{field-text}
 
 abbrev pub all-digits : List ℕ → Bool

@@ -2,21 +2,18 @@
 use mathlib.Core.List.{List, [], _∷_, _++_, append-assoc, map}
 use mathlib.Core.Path.{_≡_, ap, refl, sym, _∙_}
 use Prim.Native.Nat.{ℕ, _+_, _/_, _%_, _<_, _≤_, _^_}
-use lib.Dec.{leb}
 use lib.ListN.{drop, getD, length, length-append, set, take}
 use lib.Seq.{set-at, set-split}
-use native.Mathlib.Nat.{add-assoc, add-zero, zero-add}
+use native.Mathlib.Nat.{add-assoc, add-zero}
 use native.Mathlib.Numerals.{add-one}
 use native.Mathlib.Omega.{arith}
 use Rattle.std.proofs.shelf.Decimals.{decimal-digit, decimal-step}
 use Rattle.std.proofs.shelf.Lists.{append-nil, at-drop-all, at-drop-more, drop-at, drop-drop, drop-more, length-push, length-take, take-append-drop, take-at}
-use Rattle.std.proofs.shelf.Tests.{cond-false, cond-true, le-leb, lt-leb}
 use Rattle.std.specs.Joined.{joined}
 use Rattle.std.specs.Written.{decimal}
-use Rattle.tasks.specs.Reply.{plain, refused, served}
 use Rattle.tasks.specs.Staircase.{StaircaseModel}
 use Rattle.tasks.specs.Task.{TaskModel}
-use Rattle.text.specs.Writing.{field-text, line-text, put-at, staircase-text, table-text, task-word, write-after, write-answer}
+use Rattle.text.specs.Writing.{field-text, line-text, put-at, staircase-text, task-word}
 
 -- nothing, or one byte
 pub put-nothing : (at : ℕ) (buffer : List ℕ) → put-at at [] buffer ≡ buffer
@@ -119,19 +116,3 @@ put-line t at p q r s S x₀ x₁ x₂ x₃ x₄ x₅ z h e₁ l₁ e₂ l₂ e�
     let m = ap length z in
     let f = put-five at p q r s task-word (field-text 32 (t .limit)) (field-text 32 (t .deadline)) S (10 ∷ []) x₀ x₁ x₂ x₃ x₄ x₅ (omega arith) e₁ l₁ e₂ l₂ e₃ l₃ e₄ l₄ e₅ in
     (f ∙ ap (λ l. put-at at (task-word ++ (field-text 32 (t .limit) ++ (field-text 32 (t .deadline) ++ (l ++ 10 ∷ [])))) x₀) z, omega arith)
-
--- what the writer answers, and the buffer then
-pub write-refused : (ts us : List TaskModel) (buffer : List ℕ) → ts ≡ us → length buffer < length (table-text ts)
-    → (refused (plain 21) ≡ write-answer us buffer) × (buffer ≡ write-after us buffer)
-write-refused ts us buffer e h =
-    let f = ap (λ l. leb (length (table-text l)) (length buffer)) (sym e) ∙ lt-leb (length (table-text ts)) (length buffer) h in
-    (sym (cond-false (leb (length (table-text us)) (length buffer)) _ _ f), sym (cond-false (leb (length (table-text us)) (length buffer)) _ _ f))
-
-pub write-done : (ts us : List TaskModel) (n : ℕ) (buffer after : List ℕ) → ts ≡ us → length (table-text ts) ≤ length buffer
-    → after ≡ put-at 0 (table-text ts) buffer → n ≡ 0 + length (table-text ts) → (served n ≡ write-answer us buffer) × (after ≡ write-after us buffer)
-write-done ts us n buffer after e h a i =
-    let m = ap (λ l. length (table-text l)) e in
-    let f = ap (λ l. leb (length (table-text l)) (length buffer)) (sym e) ∙ le-leb (length (table-text ts)) (length buffer) h in
-    let k : n ≡ length (table-text us) = omega arith in
-    let z : after ≡ table-text us ++ drop (length (table-text us)) buffer = a ∙ ap (λ l. put-at 0 (table-text l) buffer) e ∙ rw zero-add in
-    (ap served k ∙ sym (cond-true (leb (length (table-text us)) (length buffer)) _ _ f), z ∙ sym (cond-true (leb (length (table-text us)) (length buffer)) _ _ f))

@@ -21,7 +21,10 @@ use Rattle.tasks.specs.declared.task.Task.{Task}
 use Rattle.text.proofs.Numerals.{expect-here, field-read}
 use Rattle.text.proofs.Replies.{then-on}
 use Rattle.text.proofs.WrittenBack.{line-and-rest}
-use Rattle.text.specs.Reading.{entry-made, expect-all, field, in-table, leading-digits, line-entered, lines, numbers, place, reading, staircase, staircases, staircases-after}
+use Rattle.text.specs.Bytes.{expect-all, place}
+use Rattle.text.specs.Line.{entry-made, line-entered, numbers, staircase, staircases, staircases-after}
+use Rattle.text.specs.Numeral.{field, leading-digits}
+use Rattle.text.specs.Reading.{in-table, lines, reading}
 use Rattle.text.specs.RoundTrip.{Reads-back}
 use Rattle.text.specs.Writing.{field-text, line-text, staircase-text, table-text, task-word}
 

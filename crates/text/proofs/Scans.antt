@@ -8,12 +8,13 @@ use lib.Dec.{eqb}
 use lib.ListN.{drop, getD, length, length-drop}
 use native.Mathlib.Omega.{arith}
 use Rattle.std.proofs.shelf.Lists.{at-drop-all, at-drop-more, drop-drop, nil-from-length}
-use Rattle.std.proofs.shelf.Tests.{both-ways, cases-lt, cond-both, cond-false, cond-true}
+use Rattle.std.proofs.shelf.Tests.{both-ways, cases-lt, cond-both, cond-false, cond-true, lt-ltb, or-left, or-right}
 use Rattle.std.proofs.shelf.Ways.{tells}
 use Rattle.std.specs.declared.option.Option.the-variants.{None, Some}
 use Rattle.tasks.specs.Reply.{Reply, refused, served, then}
 use Rattle.text.specs.Views.{digit-of}
-use Rattle.text.specs.Reading.{expect, expect-all, fault, field, is-digit, leading-digits, not-allowed, number-after, numeral, numeral-of, place, starts}
+use Rattle.text.specs.Bytes.{expect, expect-all, fault, place, starts}
+use Rattle.text.specs.Numeral.{field, is-digit, leading-digits, leading-zero, not-allowed, number-after, numeral, numeral-fault, numeral-of}
 
 pub place-drop : (bs : List ℕ) (i : ℕ) → i ≤ length bs → place bs (drop i bs) ≡ i
 place-drop bs i h = rw length-drop (omega arith)
@@ -125,22 +126,32 @@ unfolding numeral
 numeral-none bs left h = rw (nil-from-length (leading-digits left) h)
 
 some-digits : (ds bs left : List ℕ) → 0 < length ds
-    → numeral-of ds bs left ≡ cond (not-allowed ds) (refused (fault 19 bs left)) (served (number-after 0 ds, drop (length ds) left))
+    → numeral-of ds bs left ≡ cond (not-allowed ds) (refused (numeral-fault ds bs left)) (served (number-after 0 ds, drop (length ds) left))
 some-digits [] bs left h = absurd (omega arith)
 some-digits (d ∷ ds) bs left h = refl
 
-pub numeral-padded : (bs left : List ℕ) → 1 < length (leading-digits left) → starts 48 left ≡ true → numeral bs left ≡ refused (fault 19 bs left)
+-- why a numeral is not allowed
+zero-first : (left : List ℕ) → 1 < length (leading-digits left) → starts 48 left ≡ true → leading-zero (leading-digits left) ≡ true
+zero-first left h z = let f = first-digit left (omega arith) in grind (arith, tells)
+
+no-zero-first : (left : List ℕ) → 0 < length (leading-digits left) → (starts 48 left ≡ true → length (leading-digits left) ≤ 1) → leading-zero (leading-digits left) ≡ false
+no-zero-first left h one = let f = first-digit left h in grind (arith, tells)
+
+pub numeral-padded : (bs left : List ℕ) → 1 < length (leading-digits left) → starts 48 left ≡ true → numeral bs left ≡ refused (record { number = 19; values = place bs left ∷ 1 ∷ [] })
 unfolding numeral
 numeral-padded bs left h z =
     let ds = leading-digits left in
-    let f = first-digit left (omega arith) in
-    some-digits ds bs left (omega arith) ∙ cond-true (not-allowed ds) _ _ (grind (arith, tells))
+    let zero = zero-first left h z in
+    some-digits ds bs left (omega arith) ∙ cond-true (not-allowed ds) _ _ (or-left (leading-zero ds) _ zero)
+    ∙ ap (λ n. refused (record { number = 19; values = place bs left ∷ n ∷ [] })) (cond-true {A = ℕ} (leading-zero ds) 1 2 zero)
 
-pub numeral-large : (bs left : List ℕ) → 0 < length (leading-digits left) → 65535 < number-after 0 (leading-digits left)
-    → numeral bs left ≡ refused (fault 19 bs left)
+pub numeral-large : (bs left : List ℕ) → 0 < length (leading-digits left) → (starts 48 left ≡ true → length (leading-digits left) ≤ 1) → 65535 < number-after 0 (leading-digits left)
+    → numeral bs left ≡ refused (record { number = 19; values = place bs left ∷ 2 ∷ [] })
 unfolding numeral
-numeral-large bs left h z =
-    let ds = leading-digits left in some-digits ds bs left h ∙ cond-true (not-allowed ds) _ _ (grind (arith, tells))
+numeral-large bs left h one z =
+    let ds = leading-digits left in
+    some-digits ds bs left h ∙ cond-true (not-allowed ds) _ _ (or-right (leading-zero ds) _ (lt-ltb 65535 (number-after 0 ds) z))
+    ∙ ap (λ n. refused (record { number = 19; values = place bs left ∷ n ∷ [] })) (cond-false {A = ℕ} (leading-zero ds) 1 2 (no-zero-first left h one))
 
 pub numeral-good : (bs left : List ℕ) → 0 < length (leading-digits left) → (starts 48 left ≡ true → length (leading-digits left) ≤ 1)
     → number-after 0 (leading-digits left) ≤ 65535 → numeral bs left ≡ served (number-after 0 (leading-digits left), drop (length (leading-digits left)) left)

@@ -2,18 +2,16 @@
 use mathlib.Core.List.{List, [], _∷_}
 use mathlib.Core.Path.{_≡_, ap, refl, sym, _∙_}
 use Prim.Native.Nat.{ℕ, suc, zero, _+_, _-_, _<_, _≤_}
-use lib.Dec.{ltb}
 use lib.ListN.{drop, length, length-drop}
 use native.Mathlib.Numerals.{sub-one}
 use native.Mathlib.Omega.{arith}
 use Rattle.std.proofs.shelf.Lists.{drop-all, drop-drop}
 use Rattle.std.proofs.shelf.Results.{err-from-errBy}
-use Rattle.std.proofs.shelf.Tests.{cond-false, cond-true, le-ltb, lt-ltb}
 use Rattle.std.specs.Results.{ErrBy}
 use Rattle.std.specs.Vec.{made}
 use Rattle.std.specs.declared.result.Result.{Result}
 use Rattle.std.specs.declared.result.Result.the-variants.{Err, Ok}
-use Rattle.tasks.specs.Reply.{Refusal, plain, refused, reply, served}
+use Rattle.tasks.specs.Reply.{Refusal, refused, reply, served}
 use Rattle.tasks.specs.Task.{TaskModel}
 use Rattle.tasks.specs.declared.draft.Draft.{Draft}
 use Rattle.text.proofs.Replies.{then-not, then-on}
@@ -25,15 +23,9 @@ use Rattle.text.specs.declared.fault.AtLine.{AtLine}
 use Rattle.text.specs.declared.fault.LineFault.{LineFault}
 use Rattle.text.specs.declared.fault.TableFault.{TableFault}
 use Rattle.text.specs.declared.fault.TableFault.the-variants.{Line}
-use Rattle.text.specs.Reading.{in-table, line-entered, line-fault, lines, place, reading}
-
-pub reading-long : (text : List ℕ) → 4096 < length text → reading text ≡ refused (plain 17)
-unfolding reading
-reading-long text h = cond-true (ltb 4096 (length text)) _ _ (lt-ltb 4096 (length text) h)
-
-pub reading-lines : (text : List ℕ) → length text ≤ 4096 → reading text ≡ lines (length text) 1 [] text text
-unfolding reading
-reading-lines text h = cond-false (ltb 4096 (length text)) _ _ (le-ltb 4096 (length text) h)
+use Rattle.text.specs.Bytes.{place}
+use Rattle.text.specs.Line.{line-entered}
+use Rattle.text.specs.Reading.{in-table, line-fault, lines}
 
 one-line : (turns number : ℕ) (ts us : List TaskModel) (text left rest : List ℕ) → 0 < length left → 0 < turns
     → line-entered ts left ≡ served (us, rest) → lines turns number ts text left ≡ lines (turns - 1) (number + 1) us text rest

@@ -18,7 +18,10 @@ use Rattle.tasks.specs.Task.{TaskModel}
 use Rattle.tasks.specs.declared.refusal.Quantity.{Quantity}
 use Rattle.text.proofs.Numerals.{expect-written, field-written}
 use Rattle.text.proofs.Replies.{not-served, served-if, served-unless, then-served}
-use Rattle.text.specs.Reading.{Numbers, entry-made, expect, expect-all, field, in-table, line-entered, lines, numbers, place, reading, staircase, staircases, staircases-after, starts}
+use Rattle.text.specs.Bytes.{expect, expect-all, place, starts}
+use Rattle.text.specs.Line.{Numbers, entry-made, line-entered, numbers, staircase, staircases, staircases-after}
+use Rattle.text.specs.Numeral.{field}
+use Rattle.text.specs.Reading.{in-table, lines, reading}
 use Rattle.text.specs.RoundTrip.{Written-back}
 use Rattle.text.specs.Writing.{field-text, line-text, staircase-text, table-text, task-word}
 

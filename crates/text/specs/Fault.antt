@@ -3,7 +3,8 @@
 use mathlib.Core.List.{[], _∷_}
 use Rattle.tasks.specs.Quantity.{entry-refusal}
 use Rattle.tasks.specs.Reply.{Refusal, plain}
-use Rattle.text.specs.Reading.{entry-fault, line-fault}
+use Rattle.text.specs.Line.{entry-fault}
+use Rattle.text.specs.Reading.{line-fault}
 use Rattle.text.specs.declared.fault.LineFault.{LineFault}
 use Rattle.text.specs.declared.fault.LineFault.the-variants.{Byte, Entry, Numeral}
 use Rattle.text.specs.declared.fault.NumeralFault.{NumeralFault}
@@ -14,8 +15,8 @@ use Rattle.text.specs.declared.fault.WriteRefusal.{WriteRefusal}
 use Rattle.text.specs.declared.fault.WriteRefusal.the-variants.{ShortBuffer}
 
 abbrev pub numeral-refusal : NumeralFault → Refusal
-numeral-refusal (LeadingZero offset) = record { number = 19; values = offset ∷ [] }
-numeral-refusal (TooLarge offset) = record { number = 19; values = offset ∷ [] }
+numeral-refusal (LeadingZero offset) = record { number = 19; values = offset ∷ 1 ∷ [] }
+numeral-refusal (TooLarge offset) = record { number = 19; values = offset ∷ 2 ∷ [] }
 
 abbrev pub line-refusal : LineFault → Refusal
 line-refusal (Byte offset) = record { number = 18; values = offset ∷ [] }

@@ -11,7 +11,9 @@ use Rattle.std.specs.declared.result.Result.{Result}
 use Rattle.std.specs.declared.result.Result.the-variants.{Err, Ok}
 use Rattle.tasks.specs.Reply.{Reply, refused, served}
 use Rattle.text.specs.Fault.{numeral-refusal}
-use Rattle.text.specs.Reading.{Numbers, fault, is-digit}
+use Rattle.text.specs.Bytes.{fault}
+use Rattle.text.specs.Line.{Numbers}
+use Rattle.text.specs.Numeral.{is-digit}
 use Rattle.text.specs.declared.cursor.Cursor.{Cursor}
 use Rattle.text.specs.declared.fault.AtLine.{AtLine}
 use Rattle.text.specs.declared.fault.NumeralFault.{NumeralFault}

@@ -14,6 +14,7 @@ use Rattle.tasks.specs.Task.{TaskModel}
 abbrev pub field-text : ℕ → ℕ → List ℕ
 field-text separator n = separator ∷ decimal n
 
+-- a space, the burst, a slash and the step
 abbrev pub staircase-text : StaircaseModel → List ℕ
 staircase-text s = field-text 32 (s .burst) ++ field-text 47 (s .step)
 
@@ -21,10 +22,12 @@ staircase-text s = field-text 32 (s .burst) ++ field-text 47 (s .step)
 abbrev pub task-word : List ℕ
 task-word = 116 ∷ 97 ∷ 115 ∷ 107 ∷ []
 
+-- a task's line with its line feed
 unfoldable pub line-text : TaskModel → List ℕ
 line-text t =
     task-word ++ (field-text 32 (t .limit) ++ (field-text 32 (t .deadline) ++ (joined staircase-text (t .staircases) ++ 10 ∷ [])))
 
+-- the lines of the tasks, the one with the highest priority first
 abbrev pub table-text : List TaskModel → List ℕ
 table-text ts = joined line-text ts
 

@@ -7,7 +7,7 @@ ghost use Rattle.std.specs.Vec.{made};
 ghost use Rattle.tasks.specs.Draft.{draft-of};
 ghost use Rattle.tasks.specs.Reply.{reply};
 ghost use Rattle.text.specs.Fault.{line-refusal};
-ghost use Rattle.text.specs.Reading.{line-entered, numbers, staircase, staircases};
+ghost use Rattle.text.specs.Line.{line-entered, numbers, staircase, staircases};
 ghost use Rattle.text.specs.Views.{bytes-of, left-of, numbers-of};
 use crate::cursor::Cursor;
 use crate::fault::LineFault;

@@ -1,13 +1,13 @@
 // Parts of a table's text, put into a buffer from a place on. Each answers the place behind it.
-ghost use mathlib.Core.List.{map};
+ghost use mathlib.Core.List.{_++_, map};
 ghost use mathlib.Core.Path.{_≡_};
 ghost use Prim.Native.Nat.{_+_, _≤_};
-ghost use lib.ListN.{length};
+ghost use lib.ListN.{drop, length};
 ghost use Rattle.std.specs.Joined.{joined};
 ghost use Rattle.std.specs.Written.{decimal};
 ghost use Rattle.tasks.specs.Staircase.{staircase-of};
 ghost use Rattle.tasks.specs.Task.{task-of};
-ghost use Rattle.text.specs.Writing.{field-text, line-text, put-at, staircase-text};
+ghost use Rattle.text.specs.Writing.{field-text, line-text, put-at, staircase-text, table-text};
 use tasks::Staircase;
 use tasks::Task;
 
@@ -65,7 +65,7 @@ fn put_staircases(buffer: &mut [u8], at: usize, staircases: &[Staircase]) -> usi
     place
 }
 
-pub(crate) fn put_line(buffer: &mut [u8], at: usize, task: &Task) -> usize
+fn put_line(buffer: &mut [u8], at: usize, task: &Task) -> usize
     requires { ⌜ at + length (line-text (task-of (now task))) ≤ length (now buffer) ⌝ }
     ensures place { λ r. ⌜ r ≡ at + length (line-text (task-of (now (task .entry)))) ⌝ }
     ensures after { λ _. ⌜ now (buffer .exit) ≡ put-at at (line-text (task-of (now (task .entry)))) (now (buffer .entry)) ⌝ }
@@ -75,4 +75,17 @@ pub(crate) fn put_line(buffer: &mut [u8], at: usize, task: &Task) -> usize
     let at = put_field(buffer, at, b' ', task.deadline);
     let at = put_staircases(buffer, at, task.staircases.as_slice());
     put_word(buffer, at, b"\n")
+}
+
+// The lines of the tasks, from the front of the buffer on.
+pub(crate) fn put_lines(buffer: &mut [u8], tasks: &[Task]) -> usize
+    requires { ⌜ length (table-text (map task-of (now tasks))) ≤ length (now buffer) ⌝ }
+    ensures place { λ r. ⌜ r ≡ length (table-text (map task-of (now (tasks .entry)))) ⌝ }
+    ensures after { λ _. ⌜ now (buffer .exit) ≡ table-text (map task-of (now (tasks .entry))) ++ drop (length (table-text (map task-of (now (tasks .entry))))) (now (buffer .entry)) ⌝ }
+{
+    let mut at = 0;
+    for task in tasks {
+        at = put_line(buffer, at, task);
+    }
+    at
 }

@@ -1,17 +1,31 @@
 ghost use mathlib.Core.Bool.{cond};
 ghost use mathlib.Core.Path.{_≡_};
 ghost use Prim.Native.Nat.{min, _+_};
+ghost use lib.Dec.{ltb};
 ghost use lib.ListN.{length};
 ghost use Rattle.std.specs.Options.{isSome};
+ghost use Rattle.std.specs.declared.result.Result.the-variants.{Err, Ok};
 ghost use Rattle.tasks.specs.Reply.{refused, served};
 ghost use Rattle.text.specs.Fault.{line-refusal};
-ghost use Rattle.text.specs.Reading.{expect, expect-all, fault, field, leading-digits, number-after, numeral, starts};
+ghost use Rattle.text.specs.Bytes.{expect, expect-all, fault, starts};
+ghost use Rattle.text.specs.Numeral.{field, leading-digits, number-after, numeral};
 ghost use Rattle.text.specs.Views.{bytes-of, digit-of, field-reply, left-of};
+ghost use Rattle.text.specs.declared.fault.NumeralFault.the-variants.{TooLarge};
 use crate::cursor::Cursor;
 use crate::fault::LineFault;
 use crate::fault::NumeralFault;
 
 const LARGEST: u64 = 65_535;
+
+// The value of a numeral that begins at this place, unless it is too large.
+fn limited(value: u64, start: usize) -> Result<u64, NumeralFault>
+    ensures { λ r. ⌜ r ≡ cond (ltb 65535 value) (Err (TooLarge start)) (Ok value) ⌝ }
+{
+    if value > LARGEST {
+        return Err(NumeralFault::TooLarge(start));
+    }
+    Ok(value)
+}
 
 impl<'a> Cursor<'a> {
     pub(crate) fn new(bytes: &'a [u8]) -> Cursor<'a>
@@ -104,10 +118,7 @@ impl<'a> Cursor<'a> {
         if zero && self.at > start + 1 {
             return Some(Err(NumeralFault::LeadingZero(start)));
         }
-        if value > LARGEST {
-            return Some(Err(NumeralFault::TooLarge(start)));
-        }
-        Some(Ok(value))
+        Some(limited(value, start))
     }
 
     // Reads a separator and the numeral behind it, if they come next; the numeral may still have its fault.

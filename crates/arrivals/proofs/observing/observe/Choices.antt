@@ -1,5 +1,3 @@
-use lib.ListN.{length}
-use mathlib.Core.Path.{_≡_}
 use Rattle.arrivals.specs.Monitor.{fresh, monitor-of}
 use Rattle.tasks.specs.Task.{task-of}
 use Rattle.arrivals.proofs.Recorded.{Answered}

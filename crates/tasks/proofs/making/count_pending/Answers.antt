@@ -1,7 +1,5 @@
 use borrow.Author.Needs.{needs}
-use mathlib.Core.Path.{_≡_, sym, ap, _∙_}
-use native.Mathlib.Omega.{arith}
-use Prim.Native.Nat.{_-_, min}
+use Prim.Native.Nat.{_-_}
 use Rattle.std.proofs.shelf.Sums.{folded-more}
 use Rattle.tasks.specs.Staircase.{allowed-in, staircase-of}
 use Rattle.tasks.proofs.Least.{least-found, least-none}

@@ -1,5 +1,5 @@
 use mathlib.Core.Path.{_≡_}
-use Prim.Native.Nat.{_-_, _≤_, min}
+use Prim.Native.Nat.{_-_, min}
 use lib.ListN.{take}
 use Rattle.std.specs.Iters.{folded}
 use Rattle.tasks.specs.Staircase.{allowed-in, staircase-of}

@@ -1,12 +1,11 @@
 use mathlib.Core.List.{map}
-use mathlib.Core.Path.{_≡_, sym, ap, _∙_}
-use native.Mathlib.Omega.{arith}
+use mathlib.Core.Path.{ap, _∙_}
 use Prim.Native.Nat.{_+_}
 use lib.ListN.{drop, getD}
 use Rattle.std.proofs.shelf.Lists.{at-drop-all, at-drop-more, take-all}
 use Rattle.std.proofs.shelf.Results.{err-from-errBy}
 use Rattle.bounded.specs.List.{items}
-use Rattle.tasks.specs.Making.{in-range, staircase-from, unless-wrong, wrong-staircase}
+use Rattle.tasks.specs.Making.{in-range, staircase-from, wrong-staircase}
 use Rattle.tasks.specs.Reply.{served}
 use Rattle.tasks.specs.Staircase.{staircase-of}
 use Rattle.tasks.specs.declared.refusal.Quantity.the-variants.{Burst, Step}

@@ -1,6 +1,7 @@
 use mathlib.Core.Path.{_≡_, sym, _∙_}
 use Rattle.tasks.specs.Reply.{served}
-use Rattle.text.specs.Reading.{expect-all, field}
+use Rattle.text.specs.Bytes.{expect-all}
+use Rattle.text.specs.Numeral.{field}
 use Rattle.text.specs.Views.{bytes-of, left-of}
 use Rattle.text.specs.Writing.{task-word}
 use Rattle.text.proofs.Fields.{deadline-refused, field-at, given, limit-refused, passed-on, staircases-at, staircases-refused, stopped, word-read, word-refused, wrong}

@@ -8,7 +8,8 @@ use native.Mathlib.Omega.{arith}
 use Rattle.bounded.specs.List.{items}
 use Rattle.std.proofs.shelf.Lists.{length-push}
 use Rattle.tasks.specs.Reply.{served, then}
-use Rattle.text.specs.Reading.{expect, staircases, starts}
+use Rattle.text.specs.Bytes.{expect, starts}
+use Rattle.text.specs.Line.{staircases}
 use Rattle.text.specs.Views.{bytes-of, left-of}
 use Rattle.text.proofs.Fields.{line-ended, line-not-ended, push-fits, staircases-again, staircases-done, staircases-none}
 use Rattle.text.proofs.line.read_staircases.Needs as need

@@ -2,7 +2,7 @@ use mathlib.Core.Path.{_≡_}
 use Prim.Native.Nat.{_-_, _<_}
 use lib.ListN.{length}
 use Rattle.bounded.specs.List.{items}
-use Rattle.text.specs.Reading.{staircases}
+use Rattle.text.specs.Line.{staircases}
 use Rattle.text.specs.Views.{bytes-of, left-of}
 use Rattle.text.proofs.Fields.{staircases-from}
 use Rattle.text.proofs.line.read_staircases.Given as given

@@ -5,7 +5,7 @@ use native.Mathlib.Omega.{arith}
 use Rattle.std.proofs.shelf.Lists.{take-rest}
 use Rattle.tasks.specs.Draft.{draft-of}
 use Rattle.tasks.specs.Reply.{served}
-use Rattle.text.specs.Reading.{line-entered}
+use Rattle.text.specs.Line.{line-entered}
 use Rattle.text.proofs.Tables.{lines-all, lines-next, table-refused, was-entered, was-refused}
 use Rattle.text.proofs.reader.read_lines.Needs as need
 use Rattle.text.proofs.reader.read_lines.Needs.{In-Continue-length}

@@ -1,5 +1,5 @@
 use mathlib.Core.List.{map}
-use mathlib.Core.Path.{_≡_, sym, ap, _∙_}
+use mathlib.Core.Path.{sym, ap, _∙_}
 use Rattle.arrivals.specs.Bucket.{bucket-of, first-empty}
 use Rattle.arrivals.proofs.Empty.{empty-here, none-empty, not-empty-here}
 use Rattle.arrivals.proofs.counters.Counters.first_empty.Needs as need

@@ -1,5 +1,5 @@
 use mathlib.Core.List.{map, map-map}
-use mathlib.Core.Path.{_≡_, sym, ap, _∙_}
+use mathlib.Core.Path.{sym, ap, _∙_}
 use Rattle.std.proofs.shelf.Lists.{take-all}
 use Rattle.arrivals.specs.Bucket.{bucket-of, full}
 use Rattle.bounded.specs.List.{items}

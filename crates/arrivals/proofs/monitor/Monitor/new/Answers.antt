@@ -1,6 +1,6 @@
 use borrow.Author.Needs.{needs}
 use mathlib.Core.List.{map}
-use mathlib.Core.Path.{_≡_, ap, _∙_}
+use mathlib.Core.Path.{ap, _∙_}
 use Rattle.arrivals.specs.Bucket.{matched}
 use Rattle.bounded.specs.List.{items}
 use Rattle.tasks.specs.Staircase.{staircase-of}

@@ -1,8 +1,7 @@
 use mathlib.Core.List.{map}
-use mathlib.Core.Path.{_≡_, ap, _∙_}
+use mathlib.Core.Path.{_≡_, _∙_}
 use native.Mathlib.Omega.{arith}
-use Prim.Native.Nat.{ℕ}
-use lib.ListN.{length, take}
+use lib.ListN.{length}
 use Rattle.std.proofs.shelf.Lists.{length-map, length-take-le}
 use Rattle.bounded.specs.List.{items}
 use Rattle.bounded.proofs.Slots.{changed-all, changed-more}

@@ -1,6 +1,6 @@
 use mathlib.Core.List.{_++_, map}
 use mathlib.Core.Path.{_≡_}
-use lib.ListN.{drop, length, take}
+use lib.ListN.{drop, take}
 use Rattle.bounded.specs.List.{items}
 use Rattle.bounded.proofs.list.Bounded.change_each.Given as given
 

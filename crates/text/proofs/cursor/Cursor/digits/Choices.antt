@@ -2,7 +2,7 @@ use mathlib.Core.Path.{_≡_}
 use Prim.Native.Nat.{min, _+_, _≤_}
 use lib.ListN.{length}
 use Rattle.text.specs.Views.{bytes-of, left-of}
-use Rattle.text.specs.Reading.{leading-digits, number-after}
+use Rattle.text.specs.Numeral.{leading-digits, number-after}
 use Rattle.text.proofs.cursor.Cursor.digits.Given as given
 
 abbrev pub Inv-loop-digit : given.InvT-loop-digit

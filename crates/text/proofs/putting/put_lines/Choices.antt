@@ -4,7 +4,7 @@ use Prim.Native.Nat.{_+_}
 use lib.ListN.{drop, length}
 use Rattle.tasks.specs.Task.{task-of}
 use Rattle.text.specs.Writing.{put-at, table-text}
-use Rattle.text.proofs.writer.write_table.Given as given
+use Rattle.text.proofs.putting.put_lines.Given as given
 
 abbrev pub Inv-loop-task : given.InvT-loop-task
 Inv-loop-task l =
