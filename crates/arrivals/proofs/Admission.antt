@@ -8,16 +8,17 @@ use native.Mathlib.Omega.{arith}
 use lib.Dec.{ltb}
 use Rattle.std.proofs.shelf.Lists.{append-nil}
 use Rattle.std.proofs.shelf.Tests.{cond-both}
+use Rattle.std.specs.shelf.Lists.{All}
 use Rattle.tasks.specs.Reply.{Reply, plain, refused, served}
 use Rattle.tasks.specs.Staircase.{StaircaseModel}
 use Rattle.tasks.specs.Task.{TaskModel}
-use Rattle.arrivals.proofs.Each.{first-not-each}
+use Rattle.arrivals.proofs.All.{first-not-all}
 use Rattle.arrivals.proofs.Tokens.{Has-token, arrival-cases, taken-has-tokens}
 use Rattle.arrivals.proofs.Tracking.{All-tracked, first-window, staircases-after, staircases-full, staircases-of, tokens-windows, tracked-arrival, tracked-fresh, tracked-tick}
 use Rattle.arrivals.specs.Clock.{last-reading}
 use Rattle.arrivals.specs.Monitor.{MonitorModel, after, answer-to, fresh, left-by}
 use Rattle.arrivals.specs.Runs.{Observation, count-ticked, observations, ticks-served}
-use Rattle.arrivals.specs.Windows.{Admitted-rightly, All-admitted-rightly, Each, Keeps, clock-after, instant-taken, instants-from, taken-instants}
+use Rattle.arrivals.specs.Windows.{Admitted-rightly, All-admitted-rightly, Keeps, clock-after, instant-taken, instants-from, taken-instants}
 use Rattle.arrivals.specs.declared.counter.Event.{Event}
 use Rattle.arrivals.specs.declared.counter.Event.the-variants.{Arrival, Tick}
 
@@ -53,7 +54,7 @@ followed-left t now xs m Tick (served n) a f =
 followed-left t now xs m Arrival (refused r) a f = rw (add-zero, append-nil) f
 followed-left t now xs m Tick (refused r) a f = rw (add-zero, append-nil) f
 
--- Each answer in a run is that of the monitor which the observations before it left.
+-- All answer in a run is that of the monitor which the observations before it left.
 module _ (t : TaskModel) where
   abbrev Answered-by : ℕ → List ℕ → List Observation → Reply ℕ → MonitorModel → Type 0
   Answered-by now xs before answer n = Followed t (now + ticks-served before) (xs ++ instants-from now before) n × (answer ≡ answer-to Arrival n)
@@ -83,7 +84,7 @@ admitted t before m f =
     let xs : List ℕ = taken-instants before in
     let due : ℕ = m .clock + m .task .deadline in
     let Kept : StaircaseModel → Type 0 = Keeps (xs ++ (now ∷ [])) in
-    let law : Each Has-token (m .buckets) ↔ Each Kept (t .staircases) = rw (f .staircases) at (tokens-windows now xs (m .buckets) (f .tracked)) in
+    let law : All Has-token (m .buckets) ↔ All Kept (t .staircases) = rw (f .staircases) at (tokens-windows now xs (m .buckets) (f .tracked)) in
     elim (arrival-cases (m .buckets) due) [
       | inl h ↦
           rw (h .0) (record {
@@ -93,13 +94,13 @@ admitted t before m f =
           })
       | inr h ↦
           rw (h .1) (record {
-            admission = ((λ z. absurd z), (λ kept. first-not-each Has-token (h .0) (m .buckets) (h .2) (law .1 kept)));
+            admission = ((λ z. absurd z), (λ kept. first-not-all Has-token (h .0) (m .buckets) (h .2) (law .1 kept)));
             due = λ n e. let z : _≡_ {A = ℕ} 0 1 = cc in absurd (omega arith);
             named = λ r e. (h .0, cc, rw (f .staircases) at (first-window now xs (m .buckets) (f .tracked) (h .0) (h .2)));
           })
     ]
 
-pub all-admitted-rightly : (t : TaskModel) → Each (λ s. (1 ≤ s .burst) × (1 ≤ s .step)) (t .staircases) → (es : List Event) → All-admitted-rightly t (observations (fresh t) es)
+pub all-admitted-rightly : (t : TaskModel) → All (λ s. (1 ≤ s .burst) × (1 ≤ s .step)) (t .staircases) → (es : List Event) → All-admitted-rightly t (observations (fresh t) es)
 all-admitted-rightly t p es before rest answer eq =
     let start : Followed t 0 [] (fresh t) = record { task = refl; clock = refl; staircases = staircases-full (t .staircases); tracked = tracked-fresh 0 (t .staircases) p } in
     let found = answered t 0 [] (fresh t) start es before rest answer eq in

@@ -9,9 +9,11 @@ use lib.Dec.{eqb}
 use lib.ListN.{length}
 use Rattle.std.proofs.shelf.Lists.{length-map}
 use Rattle.std.proofs.shelf.Tests.{cond-both, eqb-true}
+use Rattle.std.specs.shelf.Lists.{All}
 use Rattle.tasks.specs.Reply.{Reply, refused, served}
 use Rattle.tasks.specs.Staircase.{StaircaseModel}
-use Rattle.arrivals.proofs.Each.{each-from, each-mapped}
+use Rattle.arrivals.proofs.All.{all-mapped}
+use Rattle.std.proofs.shelf.Elements.{all-weaker}
 use Rattle.arrivals.proofs.Least.{least-at-most, least-one-less}
 use Rattle.arrivals.proofs.Quotients.{quotient-rises}
 use Rattle.arrivals.proofs.Tokens.{Has-token, taken-has-tokens}
@@ -19,7 +21,7 @@ use Rattle.arrivals.specs.Bucket.{BucketModel, arrivals-within, bucket-after, 
 use Rattle.arrivals.specs.Counter.{counter-after}
 use Rattle.arrivals.specs.Monitor.{MonitorModel, after, answer-to, left-by}
 use Rattle.arrivals.specs.Runs.{Observation, arrivals-taken, count-taken, count-ticked, observations, ticks-served}
-use Rattle.arrivals.specs.Windows.{Bounds-arrivals, Each}
+use Rattle.arrivals.specs.Windows.{Bounds-arrivals}
 use Rattle.arrivals.specs.declared.counter.Counter.{Counter}
 use Rattle.arrivals.specs.declared.counter.Counter.the-variants.{Full, Short}
 use Rattle.arrivals.specs.declared.counter.Event.{Event}
@@ -46,18 +48,18 @@ counter-spent s Full n h = omega arith
 counter-spent s (Short t g) n h = omega arith
 
 -- a tick moves on by one instant, and no more arrivals are allowed at the instants that were to come
-pub tick-allows : (x : ℕ) (bs : List BucketModel) → Each (λ b. 1 ≤ b .staircase .step) bs → arrivals-within x (map (bucket-after Tick) bs) ≤ arrivals-within (suc x) bs
+pub tick-allows : (x : ℕ) (bs : List BucketModel) → All (λ b. 1 ≤ b .staircase .step) bs → arrivals-within x (map (bucket-after Tick) bs) ≤ arrivals-within (suc x) bs
 tick-allows x bs p =
     least-at-most (bucket-allows (suc x)) (bucket-allows x) (bucket-after Tick) bs
-    (each-from (λ b. 1 ≤ b .staircase .step) (λ b. bucket-allows x (bucket-after Tick b) ≤ bucket-allows (suc x) b) (λ b. counter-ticked (b .staircase) (b .counter) x) bs p)
+    (all-weaker (λ b. 1 ≤ b .staircase .step) (λ b. bucket-allows x (bucket-after Tick b) ≤ bucket-allows (suc x) b) (λ b. counter-ticked (b .staircase) (b .counter) x) bs p)
 
 -- an arrival that is taken is one of those that were allowed
-pub arrival-spends : (n : ℕ) (bs : List BucketModel) → 1 ≤ length bs → Each Has-token bs
+pub arrival-spends : (n : ℕ) (bs : List BucketModel) → 1 ≤ length bs → All Has-token bs
     → arrivals-within (suc n) (map (bucket-after Arrival) bs) + 1 ≡ arrivals-within (suc n) bs
 arrival-spends n [] k h = absurd (omega arith)
 arrival-spends n (b ∷ bs) k h =
     least-one-less (bucket-allows (suc n)) (bucket-allows (suc n)) (bucket-after Arrival) b bs
-    (each-from Has-token (λ b. bucket-allows (suc n) (bucket-after Arrival b) + 1 ≡ bucket-allows (suc n) b) (λ b. counter-spent (b .staircase) (b .counter) n) (b ∷ bs) h)
+    (all-weaker Has-token (λ b. bucket-allows (suc n) (bucket-after Arrival b) + 1 ≡ bucket-allows (suc n) b) (λ b. counter-spent (b .staircase) (b .counter) n) (b ∷ bs) h)
 
 -- an event leaves as many buckets as there were, with the same staircases
 length-left : (e : Event) (r : Reply ℕ) (m : MonitorModel) → length (left-by e r m .buckets) ≡ length (m .buckets)
@@ -66,15 +68,15 @@ length-left Tick (served n) m = length-map (m .buckets) (bucket-after Tick)
 length-left Arrival (refused r) m = refl
 length-left Tick (refused r) m = refl
 
-steps-left : (e : Event) (r : Reply ℕ) (m : MonitorModel) → Each (λ b. 1 ≤ b .staircase .step) (m .buckets) → Each (λ b. 1 ≤ b .staircase .step) (left-by e r m .buckets)
-steps-left Arrival (served n) m p = each-mapped (λ b. 1 ≤ b .staircase .step) (λ b. 1 ≤ b .staircase .step) (bucket-after Arrival) (λ b h. h) (m .buckets) p
-steps-left Tick (served n) m p = each-mapped (λ b. 1 ≤ b .staircase .step) (λ b. 1 ≤ b .staircase .step) (bucket-after Tick) (λ b h. h) (m .buckets) p
+steps-left : (e : Event) (r : Reply ℕ) (m : MonitorModel) → All (λ b. 1 ≤ b .staircase .step) (m .buckets) → All (λ b. 1 ≤ b .staircase .step) (left-by e r m .buckets)
+steps-left Arrival (served n) m p = all-mapped (λ b. 1 ≤ b .staircase .step) (λ b. 1 ≤ b .staircase .step) (bucket-after Arrival) (λ b h. h) (m .buckets) p
+steps-left Tick (served n) m p = all-mapped (λ b. 1 ≤ b .staircase .step) (λ b. 1 ≤ b .staircase .step) (bucket-after Tick) (λ b h. h) (m .buckets) p
 steps-left Arrival (refused r) m p = p
 steps-left Tick (refused r) m p = p
 
 -- one event with its answer, and the observations after it
 bounds-step : (e : Event) (r : Reply ℕ) (m : MonitorModel) (later : List Observation) → r ≡ answer-to e m
-    → 1 ≤ length (m .buckets) → Each (λ b. 1 ≤ b .staircase .step) (m .buckets)
+    → 1 ≤ length (m .buckets) → All (λ b. 1 ≤ b .staircase .step) (m .buckets)
     → ((y : ℕ) → ticks-served later < y → arrivals-taken later ≤ arrivals-within y (left-by e r m .buckets))
     → (x : ℕ) → count-ticked e r + ticks-served later < x → count-taken e r + arrivals-taken later ≤ arrivals-within x (m .buckets)
 bounds-step e r m later a k p rest zero h = absurd (omega arith)
@@ -85,7 +87,7 @@ bounds-step Arrival (refused r) m later a k p rest (suc x) h = omega (arith, res
 bounds-step Tick (refused r) m later a k p rest (suc x) h = omega (arith, rest (suc x) (omega arith))
 
 -- There must be a bucket: without one every arrival would be taken.
-pub bounds-arrivals : (m : MonitorModel) → 1 ≤ length (m .buckets) → Each (λ b. 1 ≤ b .staircase .step) (m .buckets)
+pub bounds-arrivals : (m : MonitorModel) → 1 ≤ length (m .buckets) → All (λ b. 1 ≤ b .staircase .step) (m .buckets)
     → (x : ℕ) → Bounds-arrivals m x (arrivals-within x (m .buckets))
 bounds-arrivals m k p x [] h = omega arith
 bounds-arrivals m k p x (e ∷ es) h =

@@ -7,10 +7,11 @@ use Prim.Native.Nat.{ℕ, _+_, _-_, _≤_, _<_}
 use native.Mathlib.Omega.{arith}
 use lib.Dec.{leb}
 use Rattle.std.proofs.shelf.Tests.{and-from, and-left, and-right, cases-lt, cond-false, cond-true, le-leb, lt-leb}
+use Rattle.std.specs.shelf.Lists.{All}
 use Rattle.tasks.specs.Staircase.{StaircaseModel}
 use Rattle.arrivals.proofs.OneCounter.{Has-room}
 use Rattle.arrivals.proofs.Quotients.{quotient-rises}
-use Rattle.arrivals.specs.Windows.{Each, Keeps, in-window}
+use Rattle.arrivals.specs.Windows.{Keeps, in-window}
 
 -- how many of these instants are u or later
 abbrev pub since : ℕ → List ℕ → ℕ
@@ -18,7 +19,7 @@ since u [] = 0
 since u (x ∷ xs) = cond (leb u x) 1 0 + since u xs
 
 abbrev pub None-later : ℕ → List ℕ → Type 0
-None-later now xs = Each (λ x. x ≤ now) xs
+None-later now xs = All (λ x. x ≤ now) xs
 
 pub since-now : (now u : ℕ) (xs : List ℕ) → u ≤ now → since u (xs ++ (now ∷ [])) ≡ since u xs + 1
 since-now now u [] h = omega (arith, cond-true {A = ℕ} (leb u now) 1 0 (le-leb u now h))

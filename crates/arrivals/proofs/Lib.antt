@@ -1,6 +1,6 @@
 pub mod Admission
+pub mod All
 pub mod Continuations
-pub mod Each
 pub mod Empty
 pub mod Instants
 pub mod Least

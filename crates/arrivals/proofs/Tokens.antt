@@ -6,22 +6,23 @@ use Prim.Native.Nat.{ℕ, suc, _+_, _≤_}
 use native.Mathlib.Omega.{arith}
 use Rattle.std.proofs.shelf.Tests.{cond-both, ltb-false, ltb-true}
 use Rattle.std.specs.declared.option.Option.the-variants.{None, Some}
+use Rattle.std.specs.shelf.Lists.{All}
 use Rattle.tasks.specs.Reply.{refused, served}
 use Rattle.arrivals.specs.Bucket.{BucketModel, first-empty, has-token}
 use Rattle.arrivals.specs.Counter.{tokens}
 use Rattle.arrivals.specs.Monitor.{taken-unless}
-use Rattle.arrivals.specs.Windows.{Each, First-without}
+use Rattle.arrivals.specs.Windows.{First-without}
 
 abbrev pub Has-token : BucketModel → Type 0
 Has-token b = 1 ≤ tokens (b .staircase) (b .counter)
 
 -- each bucket has a token, or the first without one is found; the first of these has the number k
 pub first-empty-tells : (k : ℕ) (bs : List BucketModel)
-    → ((first-empty k bs ≡ None) × Each Has-token bs) ⊎ ((j : ℕ) × (first-empty k bs ≡ Some (k + j)) × First-without Has-token j bs)
+    → ((first-empty k bs ≡ None) × All Has-token bs) ⊎ ((j : ℕ) × (first-empty k bs ≡ Some (k + j)) × First-without Has-token j bs)
 first-empty-tells k [] = inl (refl, tt)
 first-empty-tells k (b ∷ bs) =
     cond-both (has-token b) (first-empty (k + 1) bs) (Some k)
-    (λ o. ((o ≡ None) × Each Has-token (b ∷ bs)) ⊎ ((j : ℕ) × (o ≡ Some (k + j)) × First-without Has-token j (b ∷ bs)))
+    (λ o. ((o ≡ None) × All Has-token (b ∷ bs)) ⊎ ((j : ℕ) × (o ≡ Some (k + j)) × First-without Has-token j (b ∷ bs)))
     (λ e. let here : Has-token b = ltb-true 0 (tokens (b .staircase) (b .counter)) e in
     elim (first-empty-tells (k + 1) bs) [
       | inl h ↦ inl (h .0, (here, h .1))
@@ -32,7 +33,7 @@ first-empty-tells k (b ∷ bs) =
 
 -- an arrival is taken and each staircase has a token, or it is refused and the first without one is named, counted from 1
 pub arrival-cases : (bs : List BucketModel) (due : ℕ)
-    → ((taken-unless (first-empty 1 bs) due ≡ served due) × Each Has-token bs)
+    → ((taken-unless (first-empty 1 bs) due ≡ served due) × All Has-token bs)
     ⊎ ((j : ℕ) × (taken-unless (first-empty 1 bs) due ≡ refused (record { number = 10; values = suc j ∷ [] })) × First-without Has-token j bs)
 arrival-cases bs due =
     elim (first-empty-tells 1 bs) [
@@ -42,7 +43,7 @@ arrival-cases bs due =
           inr (h .0, ap (λ o. taken-unless o due) (h .1 ∙ ap Some same), h .2)
     ]
 
-pub taken-has-tokens : (bs : List BucketModel) (due n : ℕ) → served n ≡ taken-unless (first-empty 1 bs) due → Each Has-token bs
+pub taken-has-tokens : (bs : List BucketModel) (due n : ℕ) → served n ≡ taken-unless (first-empty 1 bs) due → All Has-token bs
 taken-has-tokens bs due n e =
     elim (arrival-cases bs due) [
       | inl h ↦ h .1

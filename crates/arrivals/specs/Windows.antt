@@ -5,6 +5,7 @@ use mathlib.Core.Logic.{_↔_}
 use mathlib.Core.Path.{_≡_}
 use Prim.Native.Nat.{ℕ, zero, suc, _+_, _≤_, _<_}
 use lib.Dec.{leb}
+use Rattle.std.specs.shelf.Lists.{All}
 use Rattle.tasks.specs.Reply.{Refusal, Reply, refused, served}
 use Rattle.tasks.specs.Staircase.{StaircaseModel, allowed-in}
 use Rattle.tasks.specs.Task.{TaskModel}
@@ -41,10 +42,6 @@ in-window start length (x ∷ xs) = cond (leb start x && leb x (start + length))
 abbrev pub Keeps : List ℕ → StaircaseModel → Type 0
 Keeps xs s = (start length : ℕ) → in-window start length xs ≤ allowed-in length s
 
-abbrev pub Each : {A : Type 0} → (A → Type 0) → List A → Type 0
-Each P [] = Unit {0}
-Each P (x ∷ xs) = P x × Each P xs
-
 -- the first element for which P does not hold has k elements before it
 abbrev pub First-without : {A : Type 0} → (A → Type 0) → ℕ → List A → Type 0
 First-without P k [] = ⊥
@@ -58,7 +55,7 @@ Served (refused r) = ⊥
 -- the promise on one arrival that came after these observations and got this answer
 pub record Admitted-rightly (t : TaskModel) (before : List Observation) (answer : Reply ℕ) : Type 0 where
   -- it is taken exactly when the arrivals taken before, with it, keep every staircase over every window
-  pub admission : Served answer ↔ Each (Keeps (taken-instants before ++ (clock-after before ∷ []))) (t .staircases)
+  pub admission : Served answer ↔ All (Keeps (taken-instants before ++ (clock-after before ∷ []))) (t .staircases)
   -- one that is taken is due a deadline from now
   pub due : (n : ℕ) → answer ≡ served n → n ≡ clock-after before + t .deadline
   -- a refusal names the first staircase that would not be kept, counted from 1

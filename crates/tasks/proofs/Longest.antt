@@ -4,12 +4,13 @@ use mathlib.Core.List.{List, [], _∷_, map}
 use mathlib.Core.Logic.{inl, inr}
 use mathlib.Core.Path.{_≡_, refl, sym, ap, _∙_}
 use native.Mathlib.Omega.{arith}
-use Prim.Native.Nat.{ℕ, _+_, _<_, _≤_}
+use Prim.Native.Nat.{ℕ, zero, suc, _+_, _<_, _≤_}
 use lib.ListN.{drop, getD, length}
 use Rattle.std.proofs.shelf.Lists.{at-drop-all, at-drop-more}
 use Rattle.std.proofs.shelf.Tests.{cases-cond, cond-both}
 use Rattle.std.proofs.shelf.Ways.{tells}
-use Rattle.tasks.specs.LongStaircase.{Long-of, One-of}
+use Rattle.std.specs.shelf.Lists.{All, Has}
+use Rattle.tasks.specs.LongStaircase.{Long-of}
 use Rattle.tasks.specs.Staircase.{StaircaseModel, long-staircase, longer, longest}
 
 same-either : {A : Type 0} (b : Bool) (x : A) → cond b x x ≡ x
@@ -43,23 +44,26 @@ still-no-longer x s [] h = h
 still-no-longer x s (t ∷ ts) h =
     still-no-longer x (cond (longer t s) t s) ts (cond-both (longer t s) t s (λ u. longer x u ≡ false) (no-longer x t s h) (λ _. h))
 
-longest-most : (s : StaircaseModel) (ss : List StaircaseModel) (t : StaircaseModel) → One-of t (s ∷ ss) → longer t (longest s ss) ≡ false
-longest-most s ss t (inl e) = still-no-longer t s ss (ap (λ u. longer u s) e ∙ not-itself s)
-longest-most s [] t (inr m) = absurd m
-longest-most s (u ∷ us) t (inr (inl e)) =
-    still-no-longer t (cond (longer u s) u s) us
-    (ap (λ x. longer x (cond (longer u s) u s)) e ∙ cond-both (longer u s) u s (λ x. longer u x ≡ false) (λ _. not-itself u) (λ h. h))
-longest-most s (u ∷ us) t (inr (inr m)) = longest-most (cond (longer u s) u s) us t (inr m)
+longest-most : (s : StaircaseModel) (ss : List StaircaseModel) → All (λ t. longer t (longest s ss) ≡ false) ss
+longest-most s [] = tt
+longest-most s (u ∷ us) = (
+  still-no-longer u (cond (longer u s) u s) us (cond-both (longer u s) u s (λ x. longer u x ≡ false) (λ _. not-itself u) (λ h. h)),
+  longest-most (cond (longer u s) u s) us,
+)
 
-longest-own : (s : StaircaseModel) (ss : List StaircaseModel) → One-of (longest s ss) (s ∷ ss)
-longest-own s [] = inl refl
-longest-own s (t ∷ ts) =
-    elim (longest-own (cond (longer t s) t s) ts) [
-      | inl e ↦ elim (cases-cond (longer t s) t s (longest (cond (longer t s) t s) ts) e) [ inl a ↦ inr (inl a) | inr b ↦ inl b ]
-      | inr m ↦ inr (inr m)
-    ]
+longest-own : (s : StaircaseModel) (ss : List StaircaseModel) → Has (s ∷ ss) (longest s ss)
+longest-own s [] = (0, omega arith, λ d. refl)
+longest-own s (t ∷ ts) = placed (longest-own (cond (longer t s) t s) ts)
+  where
+    placed : Has (cond (longer t s) t s ∷ ts) (longest (cond (longer t s) t s) ts) → Has (s ∷ t ∷ ts) (longest (cond (longer t s) t s) ts)
+    placed (zero, h, e) =
+        elim (cases-cond (longer t s) t s (cond (longer t s) t s) refl) [
+          | inl a ↦ (1, omega arith, λ d. sym a ∙ e d)
+          | inr b ↦ (0, omega arith, λ d. sym b ∙ e d)
+        ]
+    placed (suc k, h, e) = (suc (suc k), omega arith, e)
 
 -- the long staircase of a task that has one
 pub long-of : (ss : List StaircaseModel) → 0 < length ss → Long-of ss (long-staircase ss)
 long-of [] h = absurd (omega arith)
-long-of (s ∷ ss) h = record { own = longest-own s ss; most = longest-most s ss }
+long-of (s ∷ ss) h = record { own = longest-own s ss; most = (still-no-longer s s ss (not-itself s), longest-most s ss) }
