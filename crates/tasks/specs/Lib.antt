@@ -4,5 +4,6 @@ pub mod Staircase
 pub mod LongStaircase
 pub mod Task
 pub mod Quantity
+pub mod EntryRefusal
 pub mod Making
 pub mod Draft

@@ -2,12 +2,10 @@
 -- staircase have the staircase's number with them, counted from 1.
 use mathlib.Core.List.{List, [], _∷_}
 use Prim.Native.Nat.{ℕ}
-use Rattle.tasks.specs.Reply.{Refusal, plain}
-use Rattle.tasks.specs.declared.refusal.EntryRefusal.{EntryRefusal}
-use Rattle.tasks.specs.declared.refusal.EntryRefusal.the-variants.{DraftFull, OutOfRange, TooManyPending}
 use Rattle.tasks.specs.declared.refusal.Quantity.{Quantity}
 use Rattle.tasks.specs.declared.refusal.Quantity.the-variants.{Burst, Count, Deadline, Distance, Jitter, Limit, Period, Step}
 
+-- what a quantity is called in the values of a refusal
 abbrev pub quantity : Quantity → List ℕ
 quantity Limit = 1 ∷ []
 quantity Deadline = 2 ∷ []
@@ -17,9 +15,3 @@ quantity Distance = 5 ∷ []
 quantity Count = 6 ∷ []
 quantity (Burst k) = 7 ∷ k ∷ []
 quantity (Step k) = 8 ∷ k ∷ []
-
--- the refusals of an entry: 1, the draft is full; 2, a quantity is out of its range, and which; 3, too many jobs could be pending
-abbrev pub entry-refusal : EntryRefusal → Refusal
-entry-refusal DraftFull = plain 1
-entry-refusal (OutOfRange q) = record { number = 2; values = quantity q }
-entry-refusal TooManyPending = plain 3

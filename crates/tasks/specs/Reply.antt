@@ -22,7 +22,7 @@ abbrev pub reply : {T E A : Type 0} → (T → A) → (E → Refusal) → Result
 reply view refusal (Ok x) = served (view x)
 reply view refusal (Err e) = refused (refusal e)
 
--- an answer that is served once more, by f
+-- what f makes of the value of a served call; a refusal stays
 abbrev pub then : {A B : Type 0} → Reply A → (A → Reply B) → Reply B
 then (served a) f = f a
 then (refused r) f = refused r

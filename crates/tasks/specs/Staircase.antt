@@ -11,6 +11,7 @@ pub record StaircaseModel : Type 0 where
   pub burst : ℕ
   pub step : ℕ
 
+-- the numbers that a staircase holds
 abbrev pub staircase-of : Staircase → StaircaseModel
 staircase-of s = record { burst = s .burst; step = s .step }
 

@@ -11,12 +11,14 @@ pub record TaskModel : Type 0 where
   pub deadline : ℕ
   pub staircases : List StaircaseModel
 
+-- the numbers that a task holds
 abbrev pub task-of : Task → TaskModel
 task-of t = record { limit = t .limit; deadline = t .deadline; staircases = map staircase-of (items (t .staircases)) }
 
--- the long-run share of the processor in 1024ths, rounded up
+-- how many 1024ths of the processor jobs of this limit take in the long run, one in each step of the staircase; rounded up
 abbrev pub share-of : ℕ → StaircaseModel → ℕ
 share-of limit s = (1024 * limit + (s .step - 1)) / s .step
 
+-- the share of a task goes by its long staircase
 abbrev pub share : TaskModel → ℕ
 share t = share-of (t .limit) (long-staircase (t .staircases))

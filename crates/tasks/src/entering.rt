@@ -1,13 +1,12 @@
 ghost use mathlib.Core.List.{[]};
 ghost use mathlib.Core.Path.{_≡_};
-ghost use Rattle.tasks.specs.Draft.{draft-of, entered, entering, entry-answer};
+ghost use Rattle.tasks.specs.Draft.{draft-of, entered, entry-answer};
 ghost use Rattle.tasks.specs.Making.{making, making-periodic};
-ghost use Rattle.tasks.specs.Quantity.{entry-refusal};
+ghost use Rattle.tasks.specs.EntryRefusal.{entry-refusal};
 ghost use Rattle.tasks.specs.Reply.{reply};
 ghost use Rattle.tasks.specs.Task.{task-of};
 use crate::draft::Draft;
 use crate::refusal::EntryRefusal;
-use crate::staircase::Staircase;
 use crate::task::Task;
 use bounded::Bounded;
 
@@ -17,7 +16,7 @@ impl Draft {
         ensures { λ r. ⌜ draft-of r ≡ [] ⌝ }
     {
         Draft {
-            tasks: Bounded::new(Task::least()),
+            tasks: Bounded::new(filling()),
         }
     }
 
@@ -28,8 +27,8 @@ impl Draft {
         deadline: u64,
         staircases: &[(u64, u64)],
     ) -> Result<u64, EntryRefusal>
-        ensures answer { λ r. ⌜ reply (λ n. n) entry-refusal r ≡ entry-answer (draft-of (now (self .entry))) (entering (draft-of (now (self .entry))) (making limit deadline (now (staircases .entry)))) ⌝ }
-        ensures after { λ _. ⌜ draft-of (now (self .exit)) ≡ entered (draft-of (now (self .entry))) (entering (draft-of (now (self .entry))) (making limit deadline (now (staircases .entry)))) ⌝ }
+        ensures answer { λ r. ⌜ reply (λ n. n) entry-refusal r ≡ entry-answer (draft-of (now (self .entry))) (making limit deadline (now (staircases .entry))) ⌝ }
+        ensures after { λ _. ⌜ draft-of (now (self .exit)) ≡ entered (draft-of (now (self .entry))) (making limit deadline (now (staircases .entry))) ⌝ }
     {
         self.add(Task::new(limit, deadline, staircases))
     }
@@ -43,16 +42,16 @@ impl Draft {
         jitter: u64,
         distance: u64,
     ) -> Result<u64, EntryRefusal>
-        ensures answer { λ r. ⌜ reply (λ n. n) entry-refusal r ≡ entry-answer (draft-of (now (self .entry))) (entering (draft-of (now (self .entry))) (making-periodic limit deadline period jitter distance)) ⌝ }
-        ensures after { λ _. ⌜ draft-of (now (self .exit)) ≡ entered (draft-of (now (self .entry))) (entering (draft-of (now (self .entry))) (making-periodic limit deadline period jitter distance)) ⌝ }
+        ensures answer { λ r. ⌜ reply (λ n. n) entry-refusal r ≡ entry-answer (draft-of (now (self .entry))) (making-periodic limit deadline period jitter distance) ⌝ }
+        ensures after { λ _. ⌜ draft-of (now (self .exit)) ≡ entered (draft-of (now (self .entry))) (making-periodic limit deadline period jitter distance) ⌝ }
     {
         self.add(Task::periodic(limit, deadline, period, jitter, distance))
     }
 
     // Adds a task that was made. A full draft refuses before any other refusal.
     fn add(&mut self, made: Result<Task, EntryRefusal>) -> Result<u64, EntryRefusal>
-        ensures answer { λ r. ⌜ reply (λ n. n) entry-refusal r ≡ entry-answer (draft-of (now (self .entry))) (entering (draft-of (now (self .entry))) (reply task-of entry-refusal made)) ⌝ }
-        ensures after { λ _. ⌜ draft-of (now (self .exit)) ≡ entered (draft-of (now (self .entry))) (entering (draft-of (now (self .entry))) (reply task-of entry-refusal made)) ⌝ }
+        ensures answer { λ r. ⌜ reply (λ n. n) entry-refusal r ≡ entry-answer (draft-of (now (self .entry))) (reply task-of entry-refusal made) ⌝ }
+        ensures after { λ _. ⌜ draft-of (now (self .exit)) ≡ entered (draft-of (now (self .entry))) (reply task-of entry-refusal made) ⌝ }
     {
         let count = self.tasks.as_slice().len();
         if count >= 8 {
@@ -64,15 +63,10 @@ impl Draft {
     }
 }
 
-impl Task {
-    // The task with the smallest numbers: it fills the places of a draft that hold no task.
-    fn least() -> Task {
-        let mut staircases = Bounded::new(Staircase { burst: 1, step: 1 });
-        let _ = staircases.push(Staircase { burst: 1, step: 1 });
-        Task {
-            limit: 1,
-            deadline: 1,
-            staircases,
-        }
+// Any task: it fills the places of a draft that hold none.
+fn filling() -> Task {
+    match Task::new(1, 1, &[(1, 1)]) {
+        Ok(task) => task,
+        Err(_) => unreachable(),
     }
 }

@@ -8,7 +8,7 @@ ghost use Rattle.bounded.specs.List.{items};
 ghost use Rattle.std.specs.declared.option.Option.the-variants.{None};
 ghost use Rattle.std.specs.declared.result.Result.the-variants.{Err, Ok};
 ghost use Rattle.tasks.specs.Making.{in-range, making, making-periodic, staircase-from, unless-wrong, wrong-number, wrong-staircase};
-ghost use Rattle.tasks.specs.Quantity.{entry-refusal};
+ghost use Rattle.tasks.specs.EntryRefusal.{entry-refusal};
 ghost use Rattle.tasks.specs.Reply.{reply, served};
 ghost use Rattle.tasks.specs.Staircase.{pending-bound, staircase-of};
 ghost use Rattle.tasks.specs.Task.{task-of};
@@ -55,7 +55,7 @@ fn make_staircases(pairs: &[(u64, u64)]) -> Result<Bounded<Staircase, 4>, EntryR
 }
 
 // How many jobs can be pending at once.
-fn count_pending(deadline: u64, staircases: &[Staircase]) -> u64
+fn pending_bound(deadline: u64, staircases: &[Staircase]) -> u64
     requires { ⌜ 1 ≤ deadline ⌝ ∗ ⌜ deadline ≤ 1024 ⌝ }
     ensures { λ r. ⌜ r ≡ pending-bound deadline (map staircase-of (now (staircases .entry))) ⌝ }
 {
@@ -78,7 +78,7 @@ impl Task {
         Quantity::Deadline.check(deadline, 1, 1024)?;
         Quantity::Count.check(staircases.len() as u64, 1, 4)?;
         let staircases = make_staircases(staircases)?;
-        if count_pending(deadline, staircases.as_slice()) > 8 {
+        if pending_bound(deadline, staircases.as_slice()) > 8 {
             return Err(EntryRefusal::TooManyPending);
         }
         Ok(Task {
@@ -88,7 +88,8 @@ impl Task {
         })
     }
 
-    // A task whose arrivals are at least `distance` apart, and each at most `jitter` late for its turn in a period.
+    // A task given by period, jitter and least distance: its staircases are 1/distance and N/period, where N is one more than
+    // the whole periods in the jitter.
     pub fn periodic(
         limit: u64,
         deadline: u64,

@@ -5,7 +5,7 @@ ghost use Prim.Native.Nat.{_≤_};
 ghost use lib.ListN.{length};
 ghost use Rattle.tasks.specs.Draft.{draft-of};
 ghost use Rattle.tasks.specs.LongStaircase.{Long-of};
-ghost use Rattle.tasks.specs.Quantity.{entry-refusal};
+ghost use Rattle.tasks.specs.EntryRefusal.{entry-refusal};
 ghost use Rattle.tasks.specs.Staircase.{long-staircase, longer, staircase-of};
 ghost use Rattle.tasks.specs.Task.{share, task-of};
 use crate::draft::Draft;

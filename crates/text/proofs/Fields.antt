@@ -17,18 +17,18 @@ use Rattle.std.specs.declared.result.Result.{Result}
 use Rattle.std.specs.declared.result.Result.the-variants.{Err, Ok}
 use Rattle.tasks.specs.Reply.{Refusal, Reply, refused, reply, served, then}
 use Rattle.text.proofs.Replies.{then-not, then-on}
-use Rattle.text.specs.Fault.{line-refusal, numeral-refusal}
+use Rattle.text.specs.Fault.{cause-refusal, numeral-refusal}
 use Rattle.text.specs.Bytes.{expect, expect-all, fault, starts}
 use Rattle.text.specs.Line.{numbers, staircase, staircases, staircases-after}
 use Rattle.text.specs.Numeral.{field}
 use Rattle.text.specs.Views.{field-reply}
 use Rattle.text.specs.Writing.{task-word}
-use Rattle.text.specs.declared.fault.LineFault.{LineFault}
+use Rattle.text.specs.declared.fault.LineCause.{LineCause}
 use Rattle.text.specs.declared.fault.NumeralFault.{NumeralFault}
 
 -- what a read that stops at a byte tells
-pub stopped : {A : Type 0} (bs cs next : List ℕ) (u : LineFault) (x : Reply A)
-    → refused (fault 18 bs next) ≡ x → cs ≡ bs → line-refusal u ≡ fault 18 cs next → x ≡ refused (line-refusal u)
+pub stopped : {A : Type 0} (bs cs next : List ℕ) (u : LineCause) (x : Reply A)
+    → refused (fault 18 bs next) ≡ x → cs ≡ bs → cause-refusal u ≡ fault 18 cs next → x ≡ refused (cause-refusal u)
 stopped bs cs next u x a b e = sym a ∙ sym (ap refused e ∙ ap (λ l. refused (fault 18 l next)) b)
 
 pub given : (bs next : List ℕ) (x : Result ℕ NumeralFault) (n : ℕ) (y : Reply (ℕ × List ℕ))
@@ -40,8 +40,8 @@ pub wrong : (bs next : List ℕ) (x : Result ℕ NumeralFault) (f : NumeralFault
 wrong bs next x f y a e = sym a ∙ ap (λ z. field-reply (Some z) bs next) e
 
 -- a fault is passed on
-pub passed-on : {T A : Type 0} (view : T → A) (r : Result T LineFault) (f : LineFault) (x : Reply A)
-    → ErrBy r (λ y. y ≡ f) → x ≡ refused (line-refusal f) → reply view line-refusal r ≡ x
+pub passed-on : {T A : Type 0} (view : T → A) (r : Result T LineCause) (f : LineCause) (x : Reply A)
+    → ErrBy r (λ y. y ≡ f) → x ≡ refused (cause-refusal f) → reply view cause-refusal r ≡ x
 passed-on view r f x h e = let p = err-from-errBy r h in rw (p .1, p .2) (sym e)
 
 pub staircase-refused : (bs left : List ℕ) (r : Refusal) → field 32 bs left ≡ refused r → staircase bs left ≡ refused r
@@ -98,9 +98,9 @@ pub line-ended : {A : Type 0} (f : List ℕ → A) (bs cs next end : List ℕ) (
 line-ended f bs cs next end r x b t a e =
     let s : served end ≡ expect 10 bs next = rw b at (rw t at a) in ap (λ y. then y (λ rest. served (f rest))) s ∙ sym e
 
-pub line-not-ended : {A : Type 0} (f : List ℕ → A) (bs cs ds next end : List ℕ) (r : Bool) (u : LineFault) (x : Reply A) → cs ≡ bs → r ≡ false
-    → cond r (served end) (refused (fault 18 cs end)) ≡ expect 10 cs next → ds ≡ cs → line-refusal u ≡ fault 18 ds end
-    → x ≡ then (expect 10 bs next) (λ rest. served (f rest)) → refused (line-refusal u) ≡ x
+pub line-not-ended : {A : Type 0} (f : List ℕ → A) (bs cs ds next end : List ℕ) (r : Bool) (u : LineCause) (x : Reply A) → cs ≡ bs → r ≡ false
+    → cond r (served end) (refused (fault 18 cs end)) ≡ expect 10 cs next → ds ≡ cs → cause-refusal u ≡ fault 18 ds end
+    → x ≡ then (expect 10 bs next) (λ rest. served (f rest)) → refused (cause-refusal u) ≡ x
 line-not-ended f bs cs ds next end r u x b t a d h e =
     let s : refused (fault 18 bs end) ≡ expect 10 bs next = rw b at (rw t at a) in
     ap refused h ∙ ap (λ l. refused (fault 18 l end)) (d ∙ b) ∙ ap (λ y. then y (λ rest. served (f rest))) s ∙ sym e
@@ -110,9 +110,9 @@ pub field-at : (separator : ℕ) (bs cs left : List ℕ) (x : Reply (ℕ × List
 field-at separator bs cs left x b e = rw b at e
 
 -- a line is refused with its first part that is, or else gives its numbers
-pub word-refused : (bs cs left next : List ℕ) (r : Bool) (u : LineFault) → left ≡ bs → r ≡ false
-    → cond r (served next) (refused (fault 18 bs next)) ≡ expect-all task-word bs left → cs ≡ bs → line-refusal u ≡ fault 18 cs next
-    → refused (line-refusal u) ≡ numbers bs
+pub word-refused : (bs cs left next : List ℕ) (r : Bool) (u : LineCause) → left ≡ bs → r ≡ false
+    → cond r (served next) (refused (fault 18 bs next)) ≡ expect-all task-word bs left → cs ≡ bs → cause-refusal u ≡ fault 18 cs next
+    → refused (cause-refusal u) ≡ numbers bs
 unfolding numbers
 word-refused bs cs left next r u l t a b e =
     let s : refused (fault 18 bs next) ≡ expect-all task-word bs bs = rw l at (rw t at a) in

@@ -24,7 +24,7 @@ use Rattle.text.proofs.WrittenBack.{line-and-rest}
 use Rattle.text.specs.Bytes.{expect-all, place}
 use Rattle.text.specs.Line.{entry-made, line-entered, numbers, staircase, staircases, staircases-after}
 use Rattle.text.specs.Numeral.{field, leading-digits}
-use Rattle.text.specs.Reading.{in-table, lines, reading}
+use Rattle.text.specs.Reading.{lines, placed-at, reading}
 use Rattle.text.specs.RoundTrip.{Reads-back}
 use Rattle.text.specs.Writing.{field-text, line-text, staircase-text, table-text, task-word}
 
@@ -154,8 +154,8 @@ lines-read (suc turns) number ts (t ∷ us) text a b =
     let rest = table-text (map task-of us) in
     let line = line-text (task-of t) ++ rest in
     let n = length-append ts (task-of t ∷ []) in
-    then-on (in-table number (place text line) (line-entered ts line)) (λ e. lines turns (number + 1) (e .0) text (e .1)) (ts ++ task-of t ∷ [], rest) _
-    (ap (in-table number (place text line)) (line-entered-read ts t rest (omega arith)))
+    then-on (placed-at number (placed-at (place text line) (line-entered ts line))) (λ e. lines turns (number + 1) (e .0) text (e .1)) (ts ++ task-of t ∷ [], rest) _
+    (ap (λ x. placed-at number (placed-at (place text line) x)) (line-entered-read ts t rest (omega arith)))
     (lines-read turns (number + 1) (ts ++ task-of t ∷ []) us text (omega arith) (omega arith))
     ∙ ap served (append-assoc ts (task-of t ∷ []) (map task-of us))
 

@@ -3,6 +3,7 @@ use mathlib.Core.Bool.{Bool, cond, false, true}
 use mathlib.Core.Path.{_≡_, refl}
 use Prim.Native.Nat.{ℕ}
 use native.Mathlib.Omega.{arith}
+use Rattle.text.specs.Reading.{placed-at}
 use Rattle.tasks.specs.Reply.{Refusal, Reply, refused, served, then}
 
 pub not-served : {A X : Type 0} (r : Refusal) (a : A) → refused r ≡ served a → X
@@ -30,3 +31,8 @@ then-on x f a y e h = rw e h
 
 pub then-not : {A B : Type 0} (x : Reply A) (f : A → Reply B) (r : Refusal) → x ≡ refused r → then x f ≡ refused r
 then-not x f r e = rw e
+
+-- a place that a layer adds changes only a refusal
+pub placed-served : {A : Type 0} (p : ℕ) (x : Reply A) (a : A) → placed-at p x ≡ served a → x ≡ served a
+placed-served p (served b) a e = e
+placed-served p (refused r) a e = not-served _ _ e

@@ -10,18 +10,18 @@ use Rattle.std.proofs.shelf.Lists.{append-assoc, append-nil, joined-more, map-p
 use Rattle.std.specs.Joined.{joined}
 use Rattle.std.specs.declared.option.Option.{Option}
 use Rattle.std.specs.declared.option.Option.the-variants.{None, Some}
-use Rattle.tasks.specs.Draft.{entering}
-use Rattle.tasks.specs.Making.{making, staircase-from, unless-wrong, weighed, wrong-quantity}
+use Rattle.tasks.specs.Draft.{unless-full}
+use Rattle.tasks.specs.Making.{making, staircase-from, unless-wrong, unless-too-many, wrong-quantity}
 use Rattle.tasks.specs.Reply.{Reply, refused, served, then}
 use Rattle.tasks.specs.Staircase.{pending-bound}
 use Rattle.tasks.specs.Task.{TaskModel}
 use Rattle.tasks.specs.declared.refusal.Quantity.{Quantity}
 use Rattle.text.proofs.Numerals.{expect-written, field-written}
-use Rattle.text.proofs.Replies.{not-served, served-if, served-unless, then-served}
+use Rattle.text.proofs.Replies.{not-served, placed-served, served-if, served-unless, then-served}
 use Rattle.text.specs.Bytes.{expect, expect-all, place, starts}
 use Rattle.text.specs.Line.{Numbers, entry-made, line-entered, numbers, staircase, staircases, staircases-after}
 use Rattle.text.specs.Numeral.{field}
-use Rattle.text.specs.Reading.{in-table, lines, reading}
+use Rattle.text.specs.Reading.{lines, placed-at, reading}
 use Rattle.text.specs.RoundTrip.{Written-back}
 use Rattle.text.specs.Writing.{field-text, line-text, staircase-text, table-text, task-word}
 
@@ -115,7 +115,7 @@ unless-wrong-served (Some q) x t e = not-served _ _ e
 -- a task that is made has the numbers that it was made from
 making-same : (e : Numbers) (t : TaskModel) → making (e .limit) (e .deadline) (e .staircases) ≡ served t → task-from e ≡ t
 making-same e t h =
-    let u = unless-wrong-served (wrong-quantity (e .limit) (e .deadline) (e .staircases)) (weighed (task-from e)) t h in
+    let u = unless-wrong-served (wrong-quantity (e .limit) (e .deadline) (e .staircases)) (unless-too-many (task-from e)) t h in
     let p = served-if (leb (pending-bound (e .deadline) (map staircase-from (e .staircases))) 8) _ _ t u in
     cc (p .1)
 
@@ -129,7 +129,7 @@ line-entered-written : (ts : List TaskModel) (line : List ℕ) (v : List TaskMod
 unfolding line-entered
 line-entered-written ts line v e =
     let n = then-served (numbers line) _ v e in
-    let p = entry-written ts (entering ts (making (n .0 .0 .limit) (n .0 .0 .deadline) (n .0 .0 .staircases))) (n .0 .1) v (n .2) in
+    let p = entry-written ts (unless-full ts (making (n .0 .0 .limit) (n .0 .0 .deadline) (n .0 .0 .staircases))) (n .0 .1) v (n .2) in
     let m = served-if (ltb (length ts) 8) _ _ (p .0) (p .1) in
     let same = making-same (n .0 .0) (p .0) (m .1) in
     let whole = numbers-written line (n .0) (n .1) in
@@ -144,14 +144,10 @@ pub line-entered-shorter : (ts : List TaskModel) (line : List ℕ) (v : List Tas
 unfolding line-entered line-text
 line-entered-shorter ts line v e =
     let n = then-served (numbers line) _ v e in
-    let p = entry-written ts (entering ts (making (n .0 .0 .limit) (n .0 .0 .deadline) (n .0 .0 .staircases))) (n .0 .1) v (n .2) in
+    let p = entry-written ts (unless-full ts (making (n .0 .0 .limit) (n .0 .0 .deadline) (n .0 .0 .staircases))) (n .0 .1) v (n .2) in
     let l = ap length (numbers-written line (n .0) (n .1)) ∙ length-append (line-text (task-from (n .0 .0))) (n .0 .1) in
     let m : length (v .1) ≡ length (n .0 .1) = sym (ap (λ q. length (q .1)) (p .2)) in
     omega arith
-
-in-table-served : {A : Type 0} (number start : ℕ) (x : Reply A) (a : A) → in-table number start x ≡ served a → x ≡ served a
-in-table-served number start (served b) a e = e
-in-table-served number start (refused r) a e = not-served _ _ e
 
 lines-written : (turns number : ℕ) (ts : List TaskModel) (text left : List ℕ) (us : List TaskModel)
     → lines turns number ts text left ≡ served us → table-text ts ++ left ≡ table-text us
@@ -159,8 +155,10 @@ lines-written zero number ts text [] us e = let z : ts ≡ us = cc in append-nil
 lines-written zero number ts text (b ∷ bs) us e = not-served _ _ e
 lines-written (suc turns) number ts text [] us e = let z : ts ≡ us = cc in append-nil (table-text ts) ∙ ap table-text z
 lines-written (suc turns) number ts text (b ∷ bs) us e =
-    let p = then-served (in-table number (place text (b ∷ bs)) (line-entered ts (b ∷ bs))) _ us e in
-    let l = in-table-served number (place text (b ∷ bs)) (line-entered ts (b ∷ bs)) (p .0) (p .1) in
+    let start = place text (b ∷ bs) in
+    let line = line-entered ts (b ∷ bs) in
+    let p = then-served (placed-at number (placed-at start line)) _ us e in
+    let l = placed-served start line (p .0) (placed-served number (placed-at start line) (p .0) (p .1)) in
     line-entered-written ts (b ∷ bs) (p .0) l ∙ lines-written turns (number + 1) (p .0 .0) text (p .0 .1) us (p .2)
 
 pub written-back : (text : List ℕ) → Written-back text

@@ -2,7 +2,7 @@
 use mathlib.Core.Bool.{cond}
 use mathlib.Core.List.{List, [], _∷_, _++_}
 use Prim.Native.Nat.{ℕ, suc, zero}
-use Rattle.tasks.specs.Draft.{entering}
+use Rattle.tasks.specs.Draft.{unless-full}
 use Rattle.tasks.specs.Making.{making}
 use Rattle.tasks.specs.Reply.{Refusal, Reply, refused, served, then}
 use Rattle.tasks.specs.Task.{TaskModel}
@@ -51,4 +51,4 @@ entry-made ts (refused r) rest = refused (entry-fault r)
 -- a whole line, entered behind these tasks: the tasks then, and the bytes behind the line
 unfoldable pub line-entered : List TaskModel → List ℕ → Reply (List TaskModel × List ℕ)
 line-entered ts line =
-    then (numbers line) (λ e. entry-made ts (entering ts (making (e .0 .limit) (e .0 .deadline) (e .0 .staircases))) (e .1))
+    then (numbers line) (λ e. entry-made ts (unless-full ts (making (e .0 .limit) (e .0 .deadline) (e .0 .staircases))) (e .1))

@@ -9,21 +9,22 @@ use Rattle.tasks.specs.Task.{TaskModel}
 use Rattle.text.specs.Bytes.{place}
 use Rattle.text.specs.Line.{line-entered}
 
--- a line's refusal inside that of the table: the line's number and where it begins come before its own values
-abbrev pub line-fault : ℕ → ℕ → Refusal → Refusal
-line-fault number start r = record { number = r .number; values = number ∷ start ∷ r .values }
+-- a refusal inside that of a larger part, which puts its own place before the values
+abbrev pub at-place : ℕ → Refusal → Refusal
+at-place p r = record { number = r .number; values = p ∷ r .values }
 
-abbrev pub in-table : {A : Type 0} → ℕ → ℕ → Reply A → Reply A
-in-table number start (served a) = served a
-in-table number start (refused r) = refused (line-fault number start r)
+abbrev pub placed-at : {A : Type 0} → ℕ → Reply A → Reply A
+placed-at p (served a) = served a
+placed-at p (refused r) = refused (at-place p r)
 
--- the lines that are left, of which the first has this number, entered behind these tasks. Each line has a byte at least, so
--- that as many turns as there are bytes are enough
+-- the lines that are left, of which the first has this number, entered behind these tasks. A line's refusal gets its first byte
+-- in the text, and then its number. Each line has a byte at least, so as many turns as there are bytes are enough, and the case
+-- of no turns with bytes left is never reached
 abbrev pub lines : ℕ → ℕ → List TaskModel → List ℕ → List ℕ → Reply (List TaskModel)
 lines turns number ts text [] = served ts
 lines zero number ts text (b ∷ bs) = refused (plain 17)
 lines (suc turns) number ts text (b ∷ bs) =
-    then (in-table number (place text (b ∷ bs)) (line-entered ts (b ∷ bs))) (λ e. lines turns (number + 1) (e .0) text (e .1))
+    then (placed-at number (placed-at (place text (b ∷ bs)) (line-entered ts (b ∷ bs)))) (λ e. lines turns (number + 1) (e .0) text (e .1))
 
 -- a text of more than 4,096 bytes is refused before anything else
 abbrev pub unless-long : {A : Type 0} → List ℕ → Reply A → Reply A

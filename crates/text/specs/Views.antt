@@ -15,7 +15,7 @@ use Rattle.text.specs.Bytes.{fault}
 use Rattle.text.specs.Line.{Numbers}
 use Rattle.text.specs.Numeral.{is-digit}
 use Rattle.text.specs.declared.cursor.Cursor.{Cursor}
-use Rattle.text.specs.declared.fault.AtLine.{AtLine}
+use Rattle.text.specs.declared.fault.At.{At}
 use Rattle.text.specs.declared.fault.NumeralFault.{NumeralFault}
 use Rattle.text.specs.declared.numbers.LineNumbers.{LineNumbers}
 
@@ -41,7 +41,7 @@ field-reply (Some (Err f)) line left = refused (numeral-refusal f)
 abbrev pub numbers-of : LineNumbers → Numbers
 numbers-of n = record { limit = n .limit; deadline = n .deadline; staircases = items (n .staircases) }
 
--- a result whose fault gets the place of its line
-abbrev pub at-line : {T F : Type 0} → ℕ → ℕ → Result T F → Result T (AtLine F)
-at-line number start (Ok x) = Ok x
-at-line number start (Err f) = Err (record { number = number; start = start; fault = f })
+-- a result whose fault gets a place
+abbrev pub with-place : {T F : Type 0} → ℕ → Result T F → Result T (At F)
+with-place p (Ok x) = Ok x
+with-place p (Err f) = Err (record { place = p; fault = f })

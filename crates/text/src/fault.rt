@@ -1,13 +1,11 @@
 // What is wrong with a text. Each layer keeps the fault of the layer below it and adds the place that it knows of.
 ghost use mathlib.Core.Path.{_≡_};
-ghost use Rattle.text.specs.Fault.{line-refusal, numeral-refusal, table-refusal, write-refusal};
-ghost use Rattle.text.specs.Views.{at-line};
-ghost use Rattle.text.specs.declared.fault.LineFault.the-variants.{Entry, Numeral};
+ghost use Rattle.text.specs.Fault.{cause-refusal, numeral-refusal, table-refusal, write-refusal};
+ghost use Rattle.text.specs.Views.{with-place};
+ghost use Rattle.text.specs.declared.fault.LineCause.the-variants.{Entry, Numeral};
 ghost use Rattle.text.specs.declared.fault.TableFault.the-variants.{Line};
-use std::fmt;
 use tasks::EntryRefusal;
 use tasks::EntryRefusalDebug;
-use tasks::EntryRefusalDisplay;
 use tasks::EntryRefusalPartialEq;
 
 // A numeral that is not allowed, with the place of its first byte in its line.
@@ -19,9 +17,9 @@ pub enum NumeralFault {
     TooLarge(usize),
 }
 
-// What is wrong with a line.
+// What is wrong inside a line.
 #[derive(Clone, Copy, PartialEq, Eq, Debug)]
-pub enum LineFault {
+pub enum LineCause {
     // a byte that the form does not allow there, or the end of the text, with its place in the line
     Byte(usize),
     Numeral(NumeralFault),
@@ -29,17 +27,20 @@ pub enum LineFault {
     Entry(EntryRefusal),
 }
 
+// A line that is not read, with the place of its first byte in the text.
+#[derive(Clone, Copy, PartialEq, Eq, Debug)]
+pub struct LineFault {
+    pub start: usize,
+    pub cause: LineCause,
+}
+
 // What is wrong with a table.
 #[derive(Clone, Copy, PartialEq, Eq, Debug)]
 pub enum TableFault {
     // more than 4,096 bytes
     TooLong,
-    // a line's fault, with the line's number, counted from 1, and the place of its first byte in the text
-    Line {
-        number: usize,
-        start: usize,
-        fault: LineFault,
-    },
+    // a line's fault, with the line's number, counted from 1
+    Line { number: usize, fault: LineFault },
 }
 
 // Why a table is not written.
@@ -48,59 +49,57 @@ pub enum WriteRefusal {
     ShortBuffer,
 }
 
-// A fault with the place of the line that it lies in.
-pub(crate) struct AtLine<F> {
-    pub(crate) number: usize,
-    pub(crate) start: usize,
+// A fault with the place that the layer above adds.
+pub(crate) struct At<F> {
+    pub(crate) place: usize,
     pub(crate) fault: F,
 }
 
-// A result whose fault gets the place of its line.
-pub(crate) fn placed<T, F>(
-    result: Result<T, F>,
-    number: usize,
-    start: usize,
-) -> Result<T, AtLine<F>>
-    ensures { λ r. ⌜ r ≡ at-line number start result ⌝ }
+// A result whose fault gets its place.
+pub(crate) fn placed<T, F>(result: Result<T, F>, place: usize) -> Result<T, At<F>>
+    ensures { λ r. ⌜ r ≡ with-place place result ⌝ }
 {
     match result {
         Ok(value) => Ok(value),
-        Err(fault) => Err(AtLine {
-            number,
-            start,
-            fault,
-        }),
+        Err(fault) => Err(At { place, fault }),
     }
 }
 
-pub(crate) impl From<NumeralFault> for LineFault as LineFaultFromNumeral {
+pub(crate) impl From<NumeralFault> for LineCause as LineCauseFromNumeral {
     ghost converts = { λ f r. r ≡ Numeral f };
 
-    fn from(fault: NumeralFault) -> LineFault {
-        LineFault::Numeral(fault)
+    fn from(fault: NumeralFault) -> LineCause {
+        LineCause::Numeral(fault)
     }
 }
 
-pub(crate) impl From<EntryRefusal> for LineFault as LineFaultFromEntry {
+pub(crate) impl From<EntryRefusal> for LineCause as LineCauseFromEntry {
     ghost converts = { λ f r. r ≡ Entry f };
 
-    fn from(refusal: EntryRefusal) -> LineFault {
-        LineFault::Entry(refusal)
+    fn from(refusal: EntryRefusal) -> LineCause {
+        LineCause::Entry(refusal)
     }
 }
 
-pub(crate) impl From<AtLine<LineFault>> for TableFault as TableFaultFromLine {
-    ghost converts = { λ f r. r ≡ Line (f .number) (f .start) (f .fault) };
+pub(crate) impl From<At<LineCause>> for LineFault as LineFaultFromCause {
+    ghost converts = { λ f r. r ≡ record { start = f .place; cause = f .fault } };
 
-    fn from(at: AtLine<LineFault>) -> TableFault {
-        let AtLine {
-            number,
-            start,
-            fault,
-        } = at;
+    fn from(at: At<LineCause>) -> LineFault {
+        let At { place, fault } = at;
+        LineFault {
+            start: place,
+            cause: fault,
+        }
+    }
+}
+
+pub(crate) impl From<At<LineFault>> for TableFault as TableFaultFromLine {
+    ghost converts = { λ f r. r ≡ Line (f .place) (f .fault) };
+
+    fn from(at: At<LineFault>) -> TableFault {
+        let At { place, fault } = at;
         TableFault::Line {
-            number,
-            start,
+            number: place,
             fault,
         }
     }
@@ -117,14 +116,14 @@ impl NumeralFault {
     }
 }
 
-impl LineFault {
+impl LineCause {
     fn number(&self) -> u64
-        ensures { λ r. ⌜ r ≡ line-refusal (now (self .entry)) .number ⌝ }
+        ensures { λ r. ⌜ r ≡ cause-refusal (now (self .entry)) .number ⌝ }
     {
         match self {
-            LineFault::Byte(_) => 18,
-            LineFault::Numeral(fault) => fault.number(),
-            LineFault::Entry(_) => 20,
+            LineCause::Byte(_) => 18,
+            LineCause::Numeral(fault) => fault.number(),
+            LineCause::Entry(_) => 20,
         }
     }
 }
@@ -136,11 +135,7 @@ impl TableFault {
     {
         match self {
             TableFault::TooLong => 17,
-            TableFault::Line {
-                number: _,
-                start: _,
-                fault,
-            } => fault.number(),
+            TableFault::Line { number: _, fault } => fault.cause.number(),
         }
     }
 }
@@ -152,61 +147,6 @@ impl WriteRefusal {
     {
         match self {
             WriteRefusal::ShortBuffer => 21,
-        }
-    }
-}
-
-pub impl fmt::Display for NumeralFault as NumeralFaultDisplay {
-    fn fmt<W: fmt::Write>(&self, f: &mut fmt::Formatter<W>) -> fmt::Result {
-        match self {
-            NumeralFault::LeadingZero(offset) => write!(
-                f,
-                "refusal 19: a leading zero in the numeral at byte {offset} of the line"
-            ),
-            NumeralFault::TooLarge(offset) => write!(
-                f,
-                "refusal 19: more than 65535 in the numeral at byte {offset} of the line"
-            ),
-        }
-    }
-}
-
-pub impl fmt::Display for LineFault as LineFaultDisplay {
-    fn fmt<W: fmt::Write>(&self, f: &mut fmt::Formatter<W>) -> fmt::Result {
-        match self {
-            LineFault::Byte(offset) => write!(
-                f,
-                "refusal 18: what stands at byte {offset} of the line is not allowed there"
-            ),
-            LineFault::Numeral(fault) => write!(f, "{fault}"),
-            LineFault::Entry(refusal) => {
-                let number = refusal.number();
-                write!(f, "refusal 20: the entry is refused by {number}: {refusal}")
-            }
-        }
-    }
-}
-
-pub impl fmt::Display for TableFault as TableFaultDisplay {
-    fn fmt<W: fmt::Write>(&self, f: &mut fmt::Formatter<W>) -> fmt::Result {
-        match self {
-            TableFault::TooLong => write!(f, "refusal 17: the text has more than 4096 bytes"),
-            TableFault::Line {
-                number,
-                start,
-                fault,
-            } => write!(f, "line {number}, which begins at byte {start}: {fault}"),
-        }
-    }
-}
-
-pub impl fmt::Display for WriteRefusal as WriteRefusalDisplay {
-    fn fmt<W: fmt::Write>(&self, f: &mut fmt::Formatter<W>) -> fmt::Result {
-        match self {
-            WriteRefusal::ShortBuffer => write!(
-                f,
-                "refusal 21: the buffer is too short for the table"
-            ),
         }
     }
 }

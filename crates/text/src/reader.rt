@@ -10,11 +10,11 @@ ghost use Rattle.text.specs.RoundTrip.{Written-back};
 use crate::fault::TableFault;
 use crate::fault::TableFaultFromLine;
 use crate::fault::placed;
-use crate::line::enter_line;
+use crate::line::enter_line_at;
 use tasks::Draft;
 
 // The bytes of the longest text that is read.
-const LONGEST: usize = 4_096;
+pub const LONGEST_TEXT: usize = 4_096;
 
 // Reads a table into the draft, in the place of what it held. A text that is refused leaves the draft as it was. A text that
 // reads is what is written of the tasks read.
@@ -31,7 +31,7 @@ pub fn read_table(draft: &mut Draft, text: &[u8]) -> Result<(), TableFault>
 fn read_text(text: &[u8]) -> Result<Draft, TableFault>
     ensures { λ r. ⌜ reply draft-of table-refusal r ≡ unless-long (now (text .entry)) (lines (length (now (text .entry))) 1 [] (now (text .entry)) (now (text .entry))) ⌝ }
 {
-    if text.len() > LONGEST {
+    if text.len() > LONGEST_TEXT {
         return Err(TableFault::TooLong);
     }
     read_lines(text)
@@ -46,7 +46,7 @@ fn read_lines(text: &[u8]) -> Result<Draft, TableFault>
     let mut number = 1;
     let mut start = 0;
     while start < text.len() {
-        let length = placed(enter_line(&mut draft, &text[start..]), number, start)?;
+        let length = placed(enter_line_at(&mut draft, text, start), number)?;
         number += 1;
         start += length;
     }

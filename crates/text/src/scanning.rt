@@ -6,13 +6,13 @@ ghost use lib.ListN.{length};
 ghost use Rattle.std.specs.Options.{isSome};
 ghost use Rattle.std.specs.declared.result.Result.the-variants.{Err, Ok};
 ghost use Rattle.tasks.specs.Reply.{refused, served};
-ghost use Rattle.text.specs.Fault.{line-refusal};
+ghost use Rattle.text.specs.Fault.{cause-refusal};
 ghost use Rattle.text.specs.Bytes.{expect, expect-all, fault, starts};
 ghost use Rattle.text.specs.Numeral.{field, leading-digits, number-after, numeral};
 ghost use Rattle.text.specs.Views.{bytes-of, digit-of, field-reply, left-of};
 ghost use Rattle.text.specs.declared.fault.NumeralFault.the-variants.{TooLarge};
 use crate::cursor::Cursor;
-use crate::fault::LineFault;
+use crate::fault::LineCause;
 use crate::fault::NumeralFault;
 
 const LARGEST: u64 = 65_535;
@@ -36,10 +36,10 @@ impl<'a> Cursor<'a> {
     }
 
     // The fault that the next byte is, or the end of the bytes.
-    pub(crate) fn unexpected(&self) -> LineFault
-        ensures { λ r. ⌜ line-refusal r ≡ fault 18 (bytes-of (now (self .entry))) (left-of (now (self .entry))) ⌝ }
+    pub(crate) fn unexpected(&self) -> LineCause
+        ensures { λ r. ⌜ cause-refusal r ≡ fault 18 (bytes-of (now (self .entry))) (left-of (now (self .entry))) ⌝ }
     {
-        LineFault::Byte(self.at)
+        LineCause::Byte(self.at)
     }
 
     // Whether this byte comes next.

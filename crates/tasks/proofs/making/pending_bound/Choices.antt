@@ -3,7 +3,7 @@ use Prim.Native.Nat.{_-_, min}
 use lib.ListN.{take}
 use Rattle.std.specs.Iters.{folded}
 use Rattle.tasks.specs.Staircase.{allowed-in, staircase-of}
-use Rattle.tasks.proofs.making.count_pending.Given as given
+use Rattle.tasks.proofs.making.pending_bound.Given as given
 
 abbrev pub Inv-loop-staircase : given.InvT-loop-staircase
 Inv-loop-staircase l =

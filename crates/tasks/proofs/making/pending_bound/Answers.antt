@@ -3,7 +3,7 @@ use Prim.Native.Nat.{_-_}
 use Rattle.std.proofs.shelf.Sums.{folded-more}
 use Rattle.tasks.specs.Staircase.{allowed-in, staircase-of}
 use Rattle.tasks.proofs.Least.{least-found, least-none}
-use Rattle.tasks.proofs.making.count_pending.Needs as need
+use Rattle.tasks.proofs.making.pending_bound.Needs as need
 
 pub returns-in-rest : need.returns-in-rest
 returns-in-rest c = least-none (allowed-in (c .args .deadline - 1)) staircase-of (c .args .staircases .now) (search needs)
