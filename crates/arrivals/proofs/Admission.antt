@@ -54,7 +54,7 @@ followed-left t now xs m Tick (served n) a f =
 followed-left t now xs m Arrival (refused r) a f = rw (add-zero, append-nil) f
 followed-left t now xs m Tick (refused r) a f = rw (add-zero, append-nil) f
 
--- All answer in a run is that of the monitor which the observations before it left.
+-- Each answer in a run is that of the monitor which the observations before it left.
 module _ (t : TaskModel) where
   abbrev Answered-by : ℕ → List ℕ → List Observation → Reply ℕ → MonitorModel → Type 0
   Answered-by now xs before answer n = Followed t (now + ticks-served before) (xs ++ instants-from now before) n × (answer ≡ answer-to Arrival n)

@@ -21,7 +21,7 @@ use Rattle.arrivals.specs.Bucket.{BucketModel, arrivals-within, bucket-after, 
 use Rattle.arrivals.specs.Counter.{counter-after}
 use Rattle.arrivals.specs.Monitor.{MonitorModel, after, answer-to, left-by}
 use Rattle.arrivals.specs.Runs.{Observation, arrivals-taken, count-taken, count-ticked, observations, ticks-served}
-use Rattle.arrivals.specs.Windows.{Bounds-arrivals}
+use Rattle.arrivals.specs.Continuations.{Bounds-arrivals}
 use Rattle.arrivals.specs.declared.counter.Counter.{Counter}
 use Rattle.arrivals.specs.declared.counter.Counter.the-variants.{Full, Short}
 use Rattle.arrivals.specs.declared.counter.Event.{Event}

@@ -1,13 +1,19 @@
 -- A loop that answers one record after another.
-use mathlib.Core.List.{List, [], _∷_, _++_, append-assoc}
+use mathlib.Core.List.{List, [], _∷_, _++_, append-assoc, map}
 use mathlib.Core.Path.{_≡_, refl, sym, ap, _∙_}
 use native.Mathlib.Omega.{arith}
-use Prim.Native.Nat.{ℕ, _+_, _<_, _≤_}
-use lib.ListN.{drop, getD, length, set, take}
+use Prim.Native.Nat.{ℕ, suc, _+_, _<_, _≤_}
+use lib.ListN.{drop, getD, length, length-append, set, take}
 use Rattle.std.proofs.shelf.Lists.{append-nil, at-drop-all, drop-drop, drop-more, drop-set-lt, take-all, take-more-set}
-use Rattle.arrivals.specs.Monitor.{MonitorModel, after}
-use Rattle.arrivals.specs.Runs.{after-all, events, heard, history, observation, observations}
+use Rattle.std.specs.declared.option.Option.{Option}
+use Rattle.std.specs.declared.option.Option.the-variants.{None, Some}
+use Rattle.std.specs.declared.result.Result.{Result}
+use Rattle.tasks.specs.Reply.{reply}
+use Rattle.arrivals.specs.Monitor.{MonitorModel, after, monitor-refusal}
+use Rattle.arrivals.specs.Runs.{RecordModel, after-all, answer-of, events, heard, history, observation, observations, record-of, told}
+use Rattle.arrivals.specs.declared.counter.Event.{Event}
 use Rattle.arrivals.specs.declared.record.Record.{Record}
+use Rattle.arrivals.specs.declared.refusal.MonitorRefusal.{MonitorRefusal}
 
 pub history-append : (xs ys : List Record) → history (xs ++ ys) ≡ history xs ++ history ys
 history-append [] ys = refl
@@ -51,3 +57,27 @@ answered-all start m old now i h n inv =
       sym (append-nil (history now)) ∙ ap (λ rs. history rs ++ []) (sym (take-all i now h)) ∙ sym (ap (λ es. history (take i now) ++ observations m es) done) ∙ inv .answers,
       sym (ap (after-all m) done) ∙ inv .left,
     )
+
+-- as many observations as records: every record has its answer
+at-most : (e : Event) (a : Option (Result ℕ MonitorRefusal)) → length (heard e a) ≤ 1
+at-most e None = omega arith
+at-most e (Some r) = omega arith
+
+length-history : (rs : List Record) → length (history rs) ≤ length rs
+length-history [] = omega arith
+length-history (r ∷ rs) = omega (arith, length-append (heard (r .event) (r .answer)) (history rs), at-most (r .event) (r .answer), length-history rs)
+
+all-told : (e : Event) (a : Option (Result ℕ MonitorRefusal)) (rs : List Record) → length (heard e a ++ history rs) ≡ suc (length rs) → (map record-of rs ≡ map told (history rs))
+    → _≡_ {A = List RecordModel} (record { event = e; answer = answer-of a } ∷ map record-of rs) (map told (heard e a ++ history rs))
+all-told e None rs n h = absurd (omega (arith, length-history rs))
+all-told e (Some r) rs n h = ap (λ ts. told (record { event = e; answer = reply (λ k. k) monitor-refusal r }) ∷ ts) h
+
+pub records-told : (rs : List Record) → length (history rs) ≡ length rs → map record-of rs ≡ map told (history rs)
+records-told [] n = refl
+records-told (r ∷ rs) n =
+    let l = length-append (heard (r .event) (r .answer)) (history rs) in
+    all-told (r .event) (r .answer) rs n (records-told rs (omega (arith, l, n, at-most (r .event) (r .answer), length-history rs)))
+
+pub length-observations : (m : MonitorModel) (es : List Event) → length (observations m es) ≡ length es
+length-observations m [] = refl
+length-observations m (e ∷ es) = ap suc (length-observations (after e m) es)

@@ -15,13 +15,16 @@ use Rattle.arrivals.specs.declared.counter.Counter.the-variants.{Full}
 use Rattle.arrivals.specs.declared.counter.Event.{Event}
 use Rattle.arrivals.specs.declared.counters.Counters.{Counters}
 
+-- a token bucket by its two parts
 pub record BucketModel : Type 0 where
   pub staircase : StaircaseModel
   pub counter : Counter
 
+-- what a bucket holds
 abbrev pub bucket-of : Bucket → BucketModel
 bucket-of b = record { staircase = staircase-of (b .staircase); counter = b .counter }
 
+-- the buckets of one task, in the order of its staircases
 abbrev pub counters-of : Counters → List BucketModel
 counters-of c = map bucket-of (items (c .buckets))
 
@@ -32,12 +35,15 @@ matched [] (b ∷ bs) = false
 matched (s ∷ ss) [] = false
 matched (s ∷ ss) (b ∷ bs) = (eqb (s .burst) (b .staircase .burst) && eqb (s .step) (b .staircase .step)) && matched ss bs
 
+-- the bucket of a staircase that has had no arrival
 abbrev pub full : StaircaseModel → BucketModel
 full s = record { staircase = s; counter = Full }
 
+-- the bucket after an event: the staircase stays
 abbrev pub bucket-after : Event → BucketModel → BucketModel
 bucket-after e b = record { staircase = b .staircase; counter = counter-after (b .staircase) e (b .counter) }
 
+-- whether the staircase allows an arrival now
 abbrev pub has-token : BucketModel → Bool
 has-token b = ltb 0 (tokens (b .staircase) (b .counter))
 

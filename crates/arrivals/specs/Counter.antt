@@ -13,16 +13,18 @@ abbrev pub sound : StaircaseModel → Counter → Bool
 sound s Full = true
 sound s (Short t g) = ltb t (s .burst) && ltb g (s .step)
 
+-- how many arrivals the staircase allows now
 abbrev pub tokens : StaircaseModel → Counter → ℕ
 tokens s Full = s .burst
 tokens s (Short t g) = t
 
+-- for how many ticks the counter has been gathering its next token; a full one gathers none
 abbrev pub age : Counter → ℕ
 age Full = 0
 age (Short t g) = g
 
--- An arrival takes a token; a tick ages a short counter by one. At the age of a step it gains a token and its age is 0; with
--- as many tokens as the burst it is full.
+-- An arrival takes a token. A tick makes a short counter one older; at the age of a step it has gathered one more token and
+-- begins anew, and once it has all the tokens of the burst it is full.
 abbrev pub counter-after : StaircaseModel → Event → Counter → Counter
 counter-after s Arrival Full = Short (s .burst - 1) 0
 counter-after s Arrival (Short t g) = Short (t - 1) g

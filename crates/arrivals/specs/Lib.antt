@@ -4,3 +4,4 @@ pub mod Bucket
 pub mod Monitor
 pub mod Runs
 pub mod Windows
+pub mod Continuations

@@ -20,6 +20,7 @@ pub record MonitorModel : Type 0 where
   pub buckets : List BucketModel
   pub clock : ℕ
 
+-- what a monitor holds
 abbrev pub monitor-of : Monitor → MonitorModel
 monitor-of m = record { task = task-of (m .task); buckets = counters-of (m .counters); clock = m .clock }
 
@@ -35,12 +36,12 @@ monitor-refusal ClockAtEnd = plain 12
 -- an arrival is taken, with this due clock, unless a staircase has no token
 abbrev pub taken-unless : Option ℕ → ℕ → Reply ℕ
 taken-unless None due = served due
-taken-unless (Some k) due = refused (record { number = 10; values = k ∷ [] })
+taken-unless (Some k) due = refused (monitor-refusal (NoToken k))
 
 -- the answer to an event: the due clock of an arrival that is taken, the new reading after a tick
 abbrev pub answer-to : Event → MonitorModel → Reply ℕ
 answer-to Arrival m = taken-unless (first-empty 1 (m .buckets)) (m .clock + m .task .deadline)
-answer-to Tick m = cond (ltb (m .clock) last-reading) (served (m .clock + 1)) (refused (plain 12))
+answer-to Tick m = cond (ltb (m .clock) last-reading) (served (m .clock + 1)) (refused (monitor-refusal ClockAtEnd))
 
 -- the monitor that an event leaves, where the answer to it is known: a refusal changes nothing
 abbrev pub left-by : Event → Reply ℕ → MonitorModel → MonitorModel
@@ -49,5 +50,6 @@ left-by Tick (served reading) m = record { task = m .task; buckets = map (bucket
 left-by Arrival (refused r) m = m
 left-by Tick (refused r) m = m
 
+-- the monitor after an event
 abbrev pub after : Event → MonitorModel → MonitorModel
 after e m = left-by e (answer-to e m) m

@@ -25,6 +25,22 @@ abbrev pub heard : Event → Option (Result ℕ MonitorRefusal) → List Observa
 heard e None = []
 heard e (Some r) = record { event = e; answer = reply (λ n. n) monitor-refusal r } ∷ []
 
+-- a record as it stands: its event, and the answer if it is there
+pub record RecordModel : Type 0 where
+  pub event : Event
+  pub answer : Option (Reply ℕ)
+
+abbrev pub answer-of : Option (Result ℕ MonitorRefusal) → Option (Reply ℕ)
+answer-of None = None
+answer-of (Some r) = Some (reply (λ n. n) monitor-refusal r)
+
+abbrev pub record-of : Record → RecordModel
+record-of r = record { event = r .event; answer = answer-of (r .answer) }
+
+-- the record of an observation: the answer is there
+abbrev pub told : Observation → RecordModel
+told o = record { event = o .event; answer = Some (o .answer) }
+
 -- the observations that these records hold
 abbrev pub history : List Record → List Observation
 history [] = []

@@ -1,16 +1,15 @@
--- What a monitor promises in the words of the subject: instants, windows and staircases; it does not mention counters.
+-- What a monitor promises of its arrivals, in the words of the subject: instants, windows and staircases, and no counters.
 use mathlib.Core.Bool.{cond, _&&_}
 use mathlib.Core.List.{List, [], _∷_, _++_}
 use mathlib.Core.Logic.{_↔_}
 use mathlib.Core.Path.{_≡_}
-use Prim.Native.Nat.{ℕ, zero, suc, _+_, _≤_, _<_}
+use Prim.Native.Nat.{ℕ, zero, suc, _+_, _≤_}
 use lib.Dec.{leb}
 use Rattle.std.specs.shelf.Lists.{All}
 use Rattle.tasks.specs.Reply.{Refusal, Reply, refused, served}
 use Rattle.tasks.specs.Staircase.{StaircaseModel, allowed-in}
 use Rattle.tasks.specs.Task.{TaskModel}
-use Rattle.arrivals.specs.Monitor.{MonitorModel}
-use Rattle.arrivals.specs.Runs.{Observation, arrivals-taken, count-ticked, observations, ticks-served}
+use Rattle.arrivals.specs.Runs.{Observation, count-ticked, ticks-served}
 use Rattle.arrivals.specs.declared.counter.Event.{Event}
 use Rattle.arrivals.specs.declared.counter.Event.the-variants.{Arrival, Tick}
 
@@ -30,6 +29,7 @@ abbrev pub instants-from : ℕ → List Observation → List ℕ
 instants-from now [] = []
 instants-from now (o ∷ os) = instant-taken now (o .event) (o .answer) ++ instants-from (now + count-ticked (o .event) (o .answer)) os
 
+-- the same from the beginning, where the clock reads 0
 abbrev pub taken-instants : List Observation → List ℕ
 taken-instants os = instants-from 0 os
 
@@ -48,6 +48,7 @@ First-without P k [] = ⊥
 First-without P zero (x ∷ xs) = P x → ⊥
 First-without P (suc k) (x ∷ xs) = P x × First-without P k xs
 
+-- the event was served
 abbrev pub Served : {A : Type 0} → Reply A → Type 0
 Served (served a) = Unit {0}
 Served (refused r) = ⊥
@@ -66,7 +67,3 @@ pub record Admitted-rightly (t : TaskModel) (before : List Observation) (answer 
 abbrev pub All-admitted-rightly : TaskModel → List Observation → Type 0
 All-admitted-rightly t os =
     (before after : List Observation) (answer : Reply ℕ) → os ≡ before ++ (record { event = Arrival; answer = answer } ∷ after) → Admitted-rightly t before answer
-
--- whatever events follow: before the x-th tick at most n arrivals are taken
-abbrev pub Bounds-arrivals : MonitorModel → ℕ → ℕ → Type 0
-Bounds-arrivals m x n = (es : List Event) → ticks-served (observations m es) < x → arrivals-taken (observations m es) ≤ n

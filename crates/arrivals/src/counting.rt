@@ -16,7 +16,7 @@ impl Counters {
         ensures { λ r. ⌜ counters-of r ≡ map full (task-of (now (task .entry)) .staircases) ⌝ }
     {
         let staircases = task.staircases.as_slice();
-        let mut buckets = Bounded::new(Bucket::new(task.long_staircase()));
+        let mut buckets = Bounded::new(Bucket::new(staircases[0]));
         for staircase in staircases {
             let _ = buckets.push(Bucket::new(*staircase));
         }

@@ -10,6 +10,7 @@ use crate::counters::Counters;
 use tasks::Task;
 
 // A task, a counter for each of its staircases, and a clock that reads an instant.
+#[derive(Drop)]
 pub struct Monitor {
     pub(crate) task: Task,
     pub(crate) counters: Counters,
@@ -17,5 +18,3 @@ pub struct Monitor {
     ghost own: { matched (map staircase-of (items (task .staircases))) (counters-of counters) ≡ true },
     ghost readable: { clock ≤ last-reading },
 }
-
-impl Copy for Monitor {}

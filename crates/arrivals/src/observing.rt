@@ -1,8 +1,8 @@
 // A whole list of events, each with its answer written beside it.
-ghost use mathlib.Core.List.{[], _∷_};
+ghost use mathlib.Core.List.{[], _∷_, map};
 ghost use mathlib.Core.Path.{_≡_};
 ghost use Rattle.arrivals.specs.Monitor.{after, fresh, monitor-of};
-ghost use Rattle.arrivals.specs.Runs.{after-all, events, heard, history, observation, observations};
+ghost use Rattle.arrivals.specs.Runs.{after-all, events, heard, history, observation, observations, record-of, told};
 ghost use Rattle.arrivals.specs.Windows.{All-admitted-rightly};
 ghost use Rattle.tasks.specs.Task.{task-of};
 use crate::monitor::Monitor;
@@ -24,7 +24,7 @@ impl Record {
 // The answer is the monitor as the last event left it. An arrival is taken exactly when the arrivals taken before, with it,
 // keep every staircase over every window; a refusal names the first staircase that would not be kept.
 pub fn observe(task: &Task, records: &mut [Record]) -> Monitor
-    ensures answers { λ _. ⌜ history (now (records .exit)) ≡ observations (fresh (task-of (now (task .entry)))) (events (now (records .entry))) ⌝ }
+    ensures answers { λ _. ⌜ map record-of (now (records .exit)) ≡ map told (observations (fresh (task-of (now (task .entry)))) (events (now (records .entry)))) ⌝ }
     ensures left { λ r. ⌜ monitor-of r ≡ after-all (fresh (task-of (now (task .entry)))) (events (now (records .entry))) ⌝ }
     ensures admission { λ _. ⌜ All-admitted-rightly (task-of (now (task .entry))) (history (now (records .exit))) ⌝ }
 {

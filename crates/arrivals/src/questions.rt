@@ -2,7 +2,7 @@
 ghost use mathlib.Core.Path.{_≡_};
 ghost use Rattle.arrivals.specs.Bucket.{arrivals-within};
 ghost use Rattle.arrivals.specs.Monitor.{monitor-of, monitor-refusal};
-ghost use Rattle.arrivals.specs.Windows.{Bounds-arrivals};
+ghost use Rattle.arrivals.specs.Continuations.{Bounds-arrivals};
 use crate::monitor::Monitor;
 use crate::refusal::MonitorRefusal;
 

@@ -42,15 +42,13 @@ fn one_each_ten_ticks() -> Result<(), Fail> {
     check_eq(arrive_after(&mut monitor, 1), Ok(15))
 }
 
-// A staircase that still has all its tokens does not age when another one refuses.
+// At 9 the first staircase refuses while the second one is full; the second must not begin to age, or it would refuse at 10.
 #[test]
 fn refusal_changes_no_counter() -> Result<(), Fail> {
-    let mut monitor = Monitor::new(&Task::new(1, 1, &[(1, 4), (2, 5)])?);
+    let mut monitor = Monitor::new(&Task::new(1, 1, &[(1, 10), (1, 3)])?);
     check_eq(arrive_after(&mut monitor, 0), Ok(1))?;
-    check_eq(arrive_after(&mut monitor, 4), Ok(5))?;
-    check_eq(arrive_after(&mut monitor, 4), Ok(9))?;
-    check_eq(arrive_after(&mut monitor, 3), NO_TOKEN)?;
-    check_eq(arrive_after(&mut monitor, 1), Ok(13))
+    check_eq(arrive_after(&mut monitor, 9), NO_TOKEN)?;
+    check_eq(arrive_after(&mut monitor, 1), Ok(11))
 }
 
 #[test]

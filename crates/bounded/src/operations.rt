@@ -45,7 +45,7 @@ impl<T: Change + Copy, const N: usize> Bounded<T, N>
 where
     T::Event: Copy,
 {
-    // The event changes each element, the first one first.
+    // The event changes each element.
     pub fn change_each(&mut self, event: T::Event)
         ensures { λ _. ⌜ map (T·Change .view) (items (now (self .exit))) ≡ map (T·Change .after event) (map (T·Change .view) (items (now (self .entry)))) ⌝ }
     {

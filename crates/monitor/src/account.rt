@@ -65,7 +65,7 @@ pub(crate) fn print_arrivals(rt: &impl Print, records: &[Record]) -> io::Result<
 pub(crate) fn print_table(rt: &LibcRuntime, draft: &Draft) -> Result<(), AnyError> {
     let mut buffer = [0u8; BUFFER_SIZE];
     match write_table(draft, &mut buffer) {
-        Ok(length) => rt.stdout().write_all(&buffer[0..length.min(BUFFER_SIZE)])?,
+        Ok(length) => rt.stdout().write_all(&buffer[0..length])?,
         Err(refusal) => println!(rt, "the table is not written: {refusal}")?,
     }
     Ok(())

@@ -11,14 +11,12 @@ use schedule::schedule;
 use std::error::AnyError;
 use std::io::Read;
 use tasks::Draft;
+use text::LONGEST_TEXT;
 use text::TableFaultDisplay;
 use text::read_table;
 
 // When the arrivals come.
 const INSTANTS: [u64; 6] = [0, 20, 40, 60, 90, 100];
-
-// One byte more than a table may have, so that a longer one is refused and not cut off.
-const MOST_BYTES: u64 = 4097;
 
 fn main(rt: LibcRuntime) -> Result<(), AnyError> {
     rt.report(run(&rt))
@@ -26,7 +24,10 @@ fn main(rt: LibcRuntime) -> Result<(), AnyError> {
 
 fn run(rt: &LibcRuntime) -> Result<(), AnyError> {
     let mut bytes = Vec::new(rt.alloc());
-    rt.stdin().take(MOST_BYTES).read_to_end(&mut bytes)?;
+    // one byte more than a table may have, so that a longer one is refused and not cut off
+    rt.stdin()
+        .take(LONGEST_TEXT as u64 + 1)
+        .read_to_end(&mut bytes)?;
     let mut draft = Draft::new();
     if let Err(fault) = read_table(&mut draft, bytes.as_slice()) {
         println!(rt, "the table is refused: {fault}")?;

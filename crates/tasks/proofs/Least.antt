@@ -13,12 +13,12 @@ folded-min : {A : Type 0} (f : A → ℕ) (a : ℕ) (x : A) (xs : List A) → fo
 folded-min f a x [] = refl
 folded-min f a x (y ∷ ys) = folded-min f (min a (f x)) y ys ∙ omega arith
 
-pub least-folded : {A : Type 0} (f : A → ℕ) (x : A) (xs : List A) → folded (λ m y. min m (f y)) (f x) xs ≡ least f (x ∷ xs)
+least-folded : {A : Type 0} (f : A → ℕ) (x : A) (xs : List A) → folded (λ m y. min m (f y)) (f x) xs ≡ least f (x ∷ xs)
 least-folded f x [] = refl
 least-folded f x (y ∷ ys) = folded-min f (f x) y ys
 
 -- the least of what a view of each element gives
-pub least-map : {A B : Type 0} (f : B → ℕ) (g : A → B) (xs : List A) → least f (map g xs) ≡ least (λ x. f (g x)) xs
+least-map : {A B : Type 0} (f : B → ℕ) (g : A → B) (xs : List A) → least f (map g xs) ≡ least (λ x. f (g x)) xs
 least-map f g [] = refl
 least-map f g (x ∷ []) = refl
 least-map f g (x ∷ y ∷ ys) = ap (min (f (g x))) (least-map f g (y ∷ ys))

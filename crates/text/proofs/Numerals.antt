@@ -20,19 +20,19 @@ use Rattle.text.specs.Bytes.{expect}
 use Rattle.text.specs.Numeral.{field, is-digit, leading-digits, not-allowed, number-after, numeral, numeral-of}
 use Rattle.text.specs.Writing.{field-text}
 
-abbrev pub all-digits : List ℕ → Bool
+abbrev all-digits : List ℕ → Bool
 all-digits [] = true
 all-digits (b ∷ bs) = is-digit b && all-digits bs
 
 own : Numerals (λ ds. all-digits ds ≡ true) (number-after 0)
 own = numerals-by-fold _ (search needs) number-after (search needs)
 
-pub leading-all : (bs : List ℕ) → all-digits (leading-digits bs) ≡ true
+leading-all : (bs : List ℕ) → all-digits (leading-digits bs) ≡ true
 leading-all [] = refl
 leading-all (b ∷ bs) =
     cond-both (is-digit b) (b ∷ leading-digits bs) [] (λ l. all-digits l ≡ true) (λ e. and-from _ _ e (leading-all bs)) (λ e. refl)
 
-pub leading-front : (bs : List ℕ) → leading-digits bs ++ drop (length (leading-digits bs)) bs ≡ bs
+leading-front : (bs : List ℕ) → leading-digits bs ++ drop (length (leading-digits bs)) bs ≡ bs
 leading-front [] = refl
 leading-front (b ∷ bs) =
     cond-both (is-digit b) (b ∷ leading-digits bs) [] (λ l. l ++ drop (length l) (b ∷ bs) ≡ b ∷ bs)
@@ -40,20 +40,20 @@ leading-front (b ∷ bs) =
     (λ e. refl)
 
 -- digits and then something else
-pub leading-append : (ds rest : List ℕ) → all-digits ds ≡ true → leading-digits rest ≡ [] → leading-digits (ds ++ rest) ≡ ds
+leading-append : (ds rest : List ℕ) → all-digits ds ≡ true → leading-digits rest ≡ [] → leading-digits (ds ++ rest) ≡ ds
 leading-append [] rest a n = n
 leading-append (d ∷ ds) rest a n =
     let p = and-parts (is-digit d) (all-digits ds) a in
     cond-true (is-digit d) _ _ (p .0) ∙ ap (λ l. d ∷ l) (leading-append ds rest (p .1) n)
 
 -- a single zero, or digits that begin with another one
-pub lone-zero : (ds : List ℕ) → not-allowed ds ≡ false → getD ds 0 0 ≡ 48 → 0 < length ds → length ds ≡ 1
+lone-zero : (ds : List ℕ) → not-allowed ds ≡ false → getD ds 0 0 ≡ 48 → 0 < length ds → length ds ≡ 1
 lone-zero ds h z s = grind (arith, tells)
 
-pub small-number : (ds : List ℕ) → not-allowed ds ≡ false → number-after 0 ds ≤ 65535
+small-number : (ds : List ℕ) → not-allowed ds ≡ false → number-after 0 ds ≤ 65535
 small-number ds h = grind (arith, tells)
 
-pub decimal-allowed : (n : ℕ) → n ≤ 65535 → not-allowed (decimal n) ≡ false
+decimal-allowed : (n : ℕ) → n ≤ 65535 → not-allowed (decimal n) ≡ false
 decimal-allowed n h =
     let v : number-after 0 (decimal n) ≡ n = value-decimal own n (omega arith) in
     elim (cases-lt n 10) [
@@ -62,7 +62,7 @@ decimal-allowed n h =
     ]
 
 -- what is read is what is written of it
-pub numeral-of-written : (ds line left : List ℕ) (v : ℕ × List ℕ) → all-digits ds ≡ true
+numeral-of-written : (ds line left : List ℕ) (v : ℕ × List ℕ) → all-digits ds ≡ true
     → numeral-of ds line left ≡ served v → (decimal (v .0) ≡ ds) × (v .1 ≡ drop (length ds) left)
 numeral-of-written [] line left v a e = not-served _ _ e
 numeral-of-written (d ∷ ds) line left v a e =
@@ -73,7 +73,7 @@ numeral-of-written (d ∷ ds) line left v a e =
     let k : decimal (number-after 0 (d ∷ ds)) ≡ d ∷ ds = decimal-value own (d ∷ ds) a (omega arith) (λ z. lone-zero (d ∷ ds) (p .0) z (omega arith)) (omega arith) in
     (rw i k, sym (ap (λ q. q .1) w))
 
-pub numeral-written : (line left : List ℕ) (v : ℕ × List ℕ) → numeral line left ≡ served v → left ≡ decimal (v .0) ++ v .1
+numeral-written : (line left : List ℕ) (v : ℕ × List ℕ) → numeral line left ≡ served v → left ≡ decimal (v .0) ++ v .1
 unfolding numeral
 numeral-written line left v e =
     let p = numeral-of-written (leading-digits left) line left v (leading-all left) e in
@@ -95,12 +95,12 @@ field-written separator line left v e =
 pub expect-here : (b : ℕ) (line rest : List ℕ) → expect b line (b ∷ rest) ≡ served rest
 expect-here b line rest = cond-true (eqb b b) _ _ (eq-eqb b b refl)
 
-pub numeral-of-decimal : (ds line left : List ℕ) → 0 < length ds → not-allowed ds ≡ false
+numeral-of-decimal : (ds line left : List ℕ) → 0 < length ds → not-allowed ds ≡ false
     → numeral-of ds line left ≡ served (number-after 0 ds, drop (length ds) left)
 numeral-of-decimal [] line left h a = absurd (omega arith)
 numeral-of-decimal (d ∷ ds) line left h a = cond-false (not-allowed (d ∷ ds)) _ _ a
 
-pub numeral-read : (n : ℕ) (line rest : List ℕ) → n ≤ 65535 → leading-digits rest ≡ []
+numeral-read : (n : ℕ) (line rest : List ℕ) → n ≤ 65535 → leading-digits rest ≡ []
     → numeral line (decimal n ++ rest) ≡ served (n, rest)
 unfolding numeral
 numeral-read n line rest h e =

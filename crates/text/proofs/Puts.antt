@@ -16,7 +16,7 @@ use Rattle.tasks.specs.Task.{TaskModel}
 use Rattle.text.specs.Writing.{field-text, line-text, put-at, staircase-text, task-word}
 
 -- nothing, or one byte
-pub put-nothing : (at : ℕ) (buffer : List ℕ) → put-at at [] buffer ≡ buffer
+put-nothing : (at : ℕ) (buffer : List ℕ) → put-at at [] buffer ≡ buffer
 put-nothing at buffer = rw (add-zero, append-nil) (take-append-drop at buffer)
 
 pub put-byte : (at x : ℕ) (buffer : List ℕ) → at < length buffer → set buffer at x ≡ put-at at (x ∷ []) buffer
@@ -28,7 +28,7 @@ pub put-slice : (at k : ℕ) (buffer ys text : List ℕ) → ys ≡ text → k �
 put-slice at k buffer ys text e n = rw (e, n, drop-drop, append-assoc)
 
 -- a second text right behind the first
-pub put-put : (at : ℕ) (a b buffer : List ℕ) → at + length a + length b ≤ length buffer
+put-put : (at : ℕ) (a b buffer : List ℕ) → at + length a + length b ≤ length buffer
     → put-at (at + length a) b (put-at at a buffer) ≡ put-at at (a ++ b) buffer
 put-put at a b xs h =
     let n : length (take at xs ++ a) ≡ at + length a = rw (length-append, length-take) (omega arith) in
@@ -85,7 +85,7 @@ pub staircase-text-length : (s : StaircaseModel) → length (staircase-text s) �
 staircase-text-length s = length-append (field-text 32 (s .burst)) (field-text 47 (s .step)) ∙ omega arith
 
 -- the five parts of a line
-pub five-lengths : (a b c d e : List ℕ) → length (a ++ (b ++ (c ++ (d ++ e)))) ≡ length a + length b + length c + length d + length e
+five-lengths : (a b c d e : List ℕ) → length (a ++ (b ++ (c ++ (d ++ e)))) ≡ length a + length b + length c + length d + length e
 five-lengths a b c d e = rw (length-append, length-append, length-append, length-append) (omega arith)
 
 pub line-text-parts : (t : TaskModel)
@@ -93,7 +93,7 @@ pub line-text-parts : (t : TaskModel)
 unfolding line-text
 line-text-parts t = five-lengths task-word (field-text 32 (t .limit)) (field-text 32 (t .deadline)) (joined staircase-text (t .staircases)) (10 ∷ [])
 
-pub put-five : (at p q r s : ℕ) (a b c d e x₀ x₁ x₂ x₃ x₄ x₅ : List ℕ) → at + length a + length b + length c + length d + length e ≤ length x₀
+put-five : (at p q r s : ℕ) (a b c d e x₀ x₁ x₂ x₃ x₄ x₅ : List ℕ) → at + length a + length b + length c + length d + length e ≤ length x₀
     → x₁ ≡ put-at at a x₀ → p ≡ at + length a → x₂ ≡ put-at p b x₁ → q ≡ p + length b → x₃ ≡ put-at q c x₂ → r ≡ q + length c → x₄ ≡ put-at r d x₃ → s ≡ r + length d → x₅ ≡ put-at s e x₄
     → x₅ ≡ put-at at (a ++ (b ++ (c ++ (d ++ e)))) x₀
 put-five at p q r s a b c d e x₀ x₁ x₂ x₃ x₄ x₅ h e₁ l₁ e₂ l₂ e₃ l₃ e₄ l₄ e₅ =

@@ -28,7 +28,7 @@ use Rattle.text.specs.Reading.{lines, placed-at, reading}
 use Rattle.text.specs.RoundTrip.{Reads-back}
 use Rattle.text.specs.Writing.{field-text, line-text, staircase-text, table-text, task-word}
 
-abbrev pub pair-of : Staircase → ℕ × ℕ
+abbrev pair-of : Staircase → ℕ × ℕ
 pair-of s = (s .burst, s .step)
 
 -- the staircases as text
@@ -173,7 +173,7 @@ staircases-length (s ∷ ss) =
     let b = staircases-length ss in
     rw (length-append (staircase-text (staircase-of s)) (staircases-text ss)) (omega arith)
 
-pub line-length : (t : Task) → (1 ≤ length (line-text (task-of t))) × (length (line-text (task-of t)) ≤ 65)
+line-length : (t : Task) → (1 ≤ length (line-text (task-of t))) × (length (line-text (task-of t)) ≤ 65)
 unfolding line-text
 line-length t =
     let a = length-decimal-le 5 (t .limit) (omega arith) (omega (arith, t .«limit_below»)) (omega (arith, t .«limit_below»)) in
@@ -185,7 +185,7 @@ line-length t =
     let z = length-append (field-text 32 (t .limit)) (field-text 32 (t .deadline) ++ (staircases-text (items (t .staircases)) ++ 10 ∷ [])) in
     (omega arith, omega arith)
 
-pub table-length : (us : List Task) → (length us ≤ length (table-text (map task-of us))) × (length (table-text (map task-of us)) ≤ 65 * length us)
+table-length : (us : List Task) → (length us ≤ length (table-text (map task-of us))) × (length (table-text (map task-of us)) ≤ 65 * length us)
 table-length [] = (omega arith, omega arith)
 table-length (t ∷ us) =
     let a = line-length t in

@@ -35,26 +35,14 @@ starts-within b bs i e =
 pub expect-taken : (b : ℕ) (bs : List ℕ) (i : ℕ) → starts b (drop i bs) ≡ true → served (drop (i + 1) bs) ≡ expect b bs (drop i bs)
 expect-taken b bs i e = rw (e, drop-drop)
 
-pub expect-left : (b : ℕ) (bs : List ℕ) (i : ℕ) → starts b (drop i bs) ≡ false → refused (fault 18 bs (drop i bs)) ≡ expect b bs (drop i bs)
-expect-left b bs i e = rw e
-
 pub digit-here : (bs : List ℕ) (i : ℕ) → i < length bs → digit-of (drop i bs) ≡ cond (is-digit (getD bs i 0)) (Some (getD bs i 0 - 48)) None
 digit-here bs i h = at-drop-more digit-of bs i 0 h
 
 pub digit-end : (bs : List ℕ) (i : ℕ) → length bs ≤ i → digit-of (drop i bs) ≡ None
 digit-end bs i h = at-drop-all digit-of bs i h
 
--- where no digit comes next
-pub leading-none : (left : List ℕ) → digit-of left ≡ None → leading-digits left ≡ []
-leading-none [] e = refl
-leading-none (b ∷ bs) e = by-test (is-digit b) e
-  where
-    by-test : (t : Bool) → cond t (Some (b - 48)) None ≡ None → cond t (b ∷ leading-digits bs) [] ≡ []
-    by-test true e = let z : _≡_ {A = ℕ} 0 1 = cc in absurd (omega arith)
-    by-test false e = refl
-
 -- where one does
-pub leading-some : (left : List ℕ) (d : ℕ) → digit-of left ≡ Some d
+leading-some : (left : List ℕ) (d : ℕ) → digit-of left ≡ Some d
     → (n : ℕ) → (number-after n (leading-digits left) ≡ number-after (10 * n + d) (leading-digits (drop 1 left))) × (length (leading-digits left) ≡ 1 + length (leading-digits (drop 1 left))) × (d ≤ 9)
 leading-some [] d e n = let z : _≡_ {A = ℕ} 0 1 = cc in absurd (omega arith)
 leading-some (b ∷ bs) d e n = by-test (is-digit b) refl e
@@ -65,11 +53,11 @@ leading-some (b ∷ bs) d e n = by-test (is-digit b) refl e
         let z : b - 48 ≡ d = cc in (ap (λ x. number-after (10 * n + x) (leading-digits bs)) z, omega arith, grind (arith, tells))
     by-test false h e = let z : _≡_ {A = ℕ} 0 1 = cc in absurd (omega arith)
 
-pub number-after-ge : (n : ℕ) (ds : List ℕ) → n ≤ number-after n ds
+number-after-ge : (n : ℕ) (ds : List ℕ) → n ≤ number-after n ds
 number-after-ge n [] = omega arith
 number-after-ge n (d ∷ ds) = let h = number-after-ge (10 * n + (d - 48)) ds in omega arith
 
-pub capped : (n : ℕ) (ds : List ℕ) → min (number-after (min n 65536) ds) 65536 ≡ min (number-after n ds) 65536
+capped : (n : ℕ) (ds : List ℕ) → min (number-after (min n 65536) ds) 65536 ≡ min (number-after n ds) 65536
 capped n ds =
     elim (cases-lt n 65536) [
       | inl h ↦ let e : min n 65536 ≡ n = omega arith in rw e

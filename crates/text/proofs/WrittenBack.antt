@@ -26,17 +26,17 @@ use Rattle.text.specs.RoundTrip.{Written-back}
 use Rattle.text.specs.Writing.{field-text, line-text, staircase-text, table-text, task-word}
 
 -- the staircases of a line as text
-abbrev pub pairs-text : List (ℕ × ℕ) → List ℕ
+abbrev pairs-text : List (ℕ × ℕ) → List ℕ
 pairs-text ps = joined staircase-text (map staircase-from ps)
 
 -- the task that the numbers of a line give
-abbrev pub task-from : Numbers → TaskModel
+abbrev task-from : Numbers → TaskModel
 task-from e = record { limit = e .limit; deadline = e .deadline; staircases = map staircase-from (e .staircases) }
 
 joined-push : {X A : Type 0} (f : X → List A) (xs : List X) (x : X) → joined f (xs ++ x ∷ []) ≡ joined f xs ++ f x
 joined-push f xs x = sym (joined-more f [] xs x)
 
-pub pairs-text-push : (ps : List (ℕ × ℕ)) (p : ℕ × ℕ) → pairs-text (ps ++ p ∷ []) ≡ pairs-text ps ++ staircase-text (staircase-from p)
+pairs-text-push : (ps : List (ℕ × ℕ)) (p : ℕ × ℕ) → pairs-text (ps ++ p ∷ []) ≡ pairs-text ps ++ staircase-text (staircase-from p)
 pairs-text-push ps p = rw map-push (joined-push staircase-text (map staircase-from ps) (staircase-from p))
 
 expect-all-written : (bs line left rest : List ℕ) → expect-all bs line left ≡ served rest → left ≡ bs ++ rest

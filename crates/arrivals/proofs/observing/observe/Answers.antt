@@ -1,8 +1,11 @@
-use mathlib.Core.Path.{sym, subst}
+use mathlib.Core.List.{map}
+use mathlib.Core.Path.{_≡_, ap, subst, sym, _∙_}
+use lib.ListN.{length}
+use Rattle.std.proofs.shelf.Lists.{length-map}
 use native.Mathlib.Omega.{arith}
 use Rattle.std.specs.declared.option.Option.the-variants.{None}
 use Rattle.arrivals.specs.Monitor.{fresh, monitor-of}
-use Rattle.arrivals.specs.Runs.{events}
+use Rattle.arrivals.specs.Runs.{events, history, told}
 use Rattle.arrivals.specs.Windows.{All-admitted-rightly}
 use Rattle.arrivals.specs.declared.counter.Event.the-variants.{Arrival}
 use Rattle.arrivals.specs.declared.record.Record.{Record}
@@ -10,7 +13,7 @@ use Rattle.bounded.specs.List.{items}
 use Rattle.tasks.specs.Task.{task-of}
 use Rattle.arrivals.proofs.Admission.{all-admitted-rightly}
 use Rattle.arrivals.proofs.Ranges.{real-staircases}
-use Rattle.arrivals.proofs.Recorded.{Answered, answered-all, answered-more, answered-none}
+use Rattle.arrivals.proofs.Recorded.{Answered, answered-all, answered-more, answered-none, length-observations, records-told}
 use Rattle.arrivals.proofs.observing.observe.Needs as need
 
 pub loop-record-holds : need.loop-record-holds
@@ -28,8 +31,12 @@ pub returns : need.returns
 returns c =
     let all = answered-all _ (monitor-of (c .loop-record .monitor)) (c .args .records .now) (c .loop-record .records) (c .loop-record .record-index) (omega arith) (omega arith) (c .loop-record .inv) in
     let t = task-of (c .args .task .now) in
+    let held = c .loop-record .records in
+    let es = events (c .args .records .now) in
+    let many : length (history held) ≡ length held =
+    ap length (all .0) ∙ length-observations (fresh t) es ∙ length-map (c .args .records .now) (λ r. r .event) ∙ omega arith in
     record {
-      answers = all .0;
+      answers = records-told held many ∙ ap (map told) (all .0);
       left = all .1;
-      admission = subst (All-admitted-rightly t) (sym (all .0)) (all-admitted-rightly t (real-staircases (items (c .args .task .now .staircases))) (events (c .args .records .now)));
+      admission = subst (All-admitted-rightly t) (sym (all .0)) (all-admitted-rightly t (real-staircases (items (c .args .task .now .staircases))) es);
     }

@@ -1,4 +1,3 @@
-use mathlib.Core.Path.{_∙_}
 use Prim.Native.Nat.{_-_}
 use lib.ListN.{drop, length, take}
 use Rattle.std.proofs.shelf.Lists.{take-rest}

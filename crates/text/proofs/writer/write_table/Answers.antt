@@ -11,5 +11,6 @@ returns c =
     record {
       answer = c .write-tasks .ensures .answer ∙ ap (λ ts. write-answer ts held) same;
       after = c .write-tasks .ensures .after ∙ ap (λ ts. write-after ts held) same;
+      within = c .write-tasks .ensures .within;
       reads-back = subst Reads-back same (reads-back (c .tasks .result .now) (c .tasks .ensures .bound));
     }

@@ -8,7 +8,7 @@ use Rattle.bounded.specs.List.{items}
 use Rattle.tasks.specs.Staircase.{staircase-of}
 use Rattle.arrivals.specs.Bucket.{counters-of}
 use Rattle.arrivals.specs.Monitor.{monitor-of}
-use Rattle.arrivals.specs.Windows.{Bounds-arrivals}
+use Rattle.arrivals.specs.Continuations.{Bounds-arrivals}
 use Rattle.arrivals.proofs.Continuations.{bounds-arrivals}
 use Rattle.arrivals.proofs.Matched.{matched-length}
 use Rattle.arrivals.proofs.Ranges.{real-steps}
