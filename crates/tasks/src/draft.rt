@@ -1,7 +1,7 @@
 use crate::task::Task;
 use bounded::Bounded;
 
-// Up to eight tasks in the order of their priority: the first one entered is number 1 and has the highest.
+// At most eight tasks, the one with the highest priority first; a task's number is its place, counted from 1.
 pub struct Draft {
     pub(crate) tasks: Bounded<Task, 8>,
 }

@@ -24,7 +24,7 @@ number-after n (d ∷ ds) = number-after (10 * n + (d - 48)) ds
 abbrev pub leading-zero : List ℕ → Bool
 leading-zero ds = eqb (getD ds 0 0) 48 && ltb 1 (length ds)
 
--- a numeral has no leading zero and is at most 65,535
+-- what no numeral may be
 abbrev pub not-allowed : List ℕ → Bool
 not-allowed ds = leading-zero ds || ltb 65535 (number-after 0 ds)
 
