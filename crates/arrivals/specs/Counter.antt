@@ -8,7 +8,7 @@ use Rattle.arrivals.specs.declared.counter.Counter.the-variants.{Full, Short}
 use Rattle.arrivals.specs.declared.counter.Event.{Event}
 use Rattle.arrivals.specs.declared.counter.Event.the-variants.{Arrival, Tick}
 
--- a counter keeps within its staircase
+-- a counter keeps within its staircase: a short one has fewer tokens than the burst and is younger than the step
 abbrev pub sound : StaircaseModel → Counter → Bool
 sound s Full = true
 sound s (Short t g) = ltb t (s .burst) && ltb g (s .step)

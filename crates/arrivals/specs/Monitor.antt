@@ -15,6 +15,7 @@ use Rattle.arrivals.specs.declared.monitor.Monitor.{Monitor}
 use Rattle.arrivals.specs.declared.refusal.MonitorRefusal.{MonitorRefusal}
 use Rattle.arrivals.specs.declared.refusal.MonitorRefusal.the-variants.{ClockAtEnd, NoToken}
 
+-- a task, the buckets of its staircases, and the reading of the clock
 pub record MonitorModel : Type 0 where
   pub task : TaskModel
   pub buckets : List BucketModel

@@ -30,10 +30,12 @@ pub record RecordModel : Type 0 where
   pub event : Event
   pub answer : Option (Reply ℕ)
 
+-- the answer in a record, by number and values
 abbrev pub answer-of : Option (Result ℕ MonitorRefusal) → Option (Reply ℕ)
 answer-of None = None
 answer-of (Some r) = Some (reply (λ n. n) monitor-refusal r)
 
+-- what a record holds
 abbrev pub record-of : Record → RecordModel
 record-of r = record { event = r .event; answer = answer-of (r .answer) }
 
@@ -60,23 +62,26 @@ abbrev pub after-all : MonitorModel → List Event → MonitorModel
 after-all m [] = m
 after-all m (e ∷ es) = after-all (after e m) es
 
--- how many arrivals were taken, and how many ticks were served
+-- 1 for an arrival that was taken
 abbrev pub count-taken : Event → Reply ℕ → ℕ
 count-taken Arrival (served due) = 1
 count-taken Arrival (refused r) = 0
 count-taken Tick (served reading) = 0
 count-taken Tick (refused r) = 0
 
+-- 1 for a tick that was served
 abbrev pub count-ticked : Event → Reply ℕ → ℕ
 count-ticked Arrival (served due) = 0
 count-ticked Arrival (refused r) = 0
 count-ticked Tick (served reading) = 1
 count-ticked Tick (refused r) = 0
 
+-- how many arrivals were taken
 abbrev pub arrivals-taken : List Observation → ℕ
 arrivals-taken [] = 0
 arrivals-taken (o ∷ os) = count-taken (o .event) (o .answer) + arrivals-taken os
 
+-- how many ticks were served
 abbrev pub ticks-served : List Observation → ℕ
 ticks-served [] = 0
 ticks-served (o ∷ os) = count-ticked (o .event) (o .answer) + ticks-served os

@@ -54,7 +54,7 @@ fn make_staircases(pairs: &[(u64, u64)]) -> Result<Bounded<Staircase, 4>, EntryR
     Ok(staircases)
 }
 
-// How many jobs can be pending at once.
+// The bound on the jobs that can be pending at once.
 fn pending_bound(deadline: u64, staircases: &[Staircase]) -> u64
     requires { ⌜ 1 ≤ deadline ⌝ ∗ ⌜ deadline ≤ 1024 ⌝ }
     ensures { λ r. ⌜ r ≡ pending-bound deadline (map staircase-of (now (staircases .entry))) ⌝ }

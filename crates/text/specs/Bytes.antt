@@ -15,6 +15,7 @@ place bytes left = length bytes - length left
 abbrev pub fault : ℕ → List ℕ → List ℕ → Refusal
 fault number line left = record { number = number; values = place line left ∷ [] }
 
+-- whether this byte comes first
 abbrev pub starts : ℕ → List ℕ → Bool
 starts b [] = false
 starts b (x ∷ xs) = eqb x b

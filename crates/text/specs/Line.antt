@@ -32,6 +32,7 @@ pub record Numbers : Type 0 where
   pub deadline : ℕ
   pub staircases : List (ℕ × ℕ)
 
+-- reading a whole line, up to its line feed
 unfoldable pub numbers : List ℕ → Reply (Numbers × List ℕ)
 numbers line =
     then (expect-all task-word line line)
@@ -44,6 +45,7 @@ numbers line =
 abbrev pub entry-fault : Refusal → Refusal
 entry-fault r = record { number = 20; values = r .number ∷ r .values }
 
+-- these tasks with the one that is served, and the bytes behind its line
 abbrev pub entry-made : List TaskModel → Reply TaskModel → List ℕ → Reply (List TaskModel × List ℕ)
 entry-made ts (served t) rest = served (ts ++ t ∷ [], rest)
 entry-made ts (refused r) rest = refused (entry-fault r)

@@ -7,6 +7,7 @@ use lib.ListN.{drop, getD, length}
 use Rattle.tasks.specs.Reply.{Refusal, Reply, refused, served, then}
 use Rattle.text.specs.Bytes.{expect, fault, place}
 
+-- the bytes 48 to 57 are the digits 0 to 9
 abbrev pub is-digit : ℕ → Bool
 is-digit b = leb 48 b && leb b 57
 
@@ -38,6 +39,7 @@ numeral-of [] line left = refused (fault 18 line left)
 numeral-of (d ∷ ds) line left =
     cond (not-allowed (d ∷ ds)) (refused (numeral-fault (d ∷ ds) line left)) (served (number-after 0 (d ∷ ds), drop (length (d ∷ ds)) left))
 
+-- the numeral in front
 unfoldable pub numeral : List ℕ → List ℕ → Reply (ℕ × List ℕ)
 numeral line left = numeral-of (leading-digits left) line left
 

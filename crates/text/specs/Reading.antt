@@ -13,6 +13,7 @@ use Rattle.text.specs.Line.{line-entered}
 abbrev pub at-place : ℕ → Refusal → Refusal
 at-place p r = record { number = r .number; values = p ∷ r .values }
 
+-- a reply whose refusal gets the place of the larger part
 abbrev pub placed-at : {A : Type 0} → ℕ → Reply A → Reply A
 placed-at p (served a) = served a
 placed-at p (refused r) = refused (at-place p r)

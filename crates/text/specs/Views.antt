@@ -38,6 +38,7 @@ field-reply None line left = refused (fault 18 line left)
 field-reply (Some (Ok n)) line left = served (n, left)
 field-reply (Some (Err f)) line left = refused (numeral-refusal f)
 
+-- the numbers of a line as the code collects them
 abbrev pub numbers-of : LineNumbers → Numbers
 numbers-of n = record { limit = n .limit; deadline = n .deadline; staircases = items (n .staircases) }
 
