@@ -1,5 +1,5 @@
 -- From the answers of the cursor to the replies of the parts of a line.
-use mathlib.Core.Bool.{Bool, cond, false, true}
+use mathlib.Core.Bool.{false, true}
 use mathlib.Core.List.{List, [], _∷_, _++_}
 use mathlib.Core.Logic.{_⊎_, inl, inr, ⊎-elim}
 use mathlib.Core.Path.{_≡_, ap, refl, sym, _∙_}
@@ -92,17 +92,25 @@ staircases-done ps qs p bs cs left next b e h n =
 pub push-fits : (ps qs : List (ℕ × ℕ)) (p : ℕ × ℕ) → length ps < 4 → qs ≡ pushed 4 ps p → qs ≡ ps ++ p ∷ []
 push-fits ps qs p h e = e ∙ cond-true (ltb (length ps) 4) _ _ (lt-ltb (length ps) 4 h)
 
--- the line feed is there, or is not
-pub line-ended : {A : Type 0} (f : List ℕ → A) (bs cs next end : List ℕ) (r : Bool) (x : Reply A) → cs ≡ bs → r ≡ true
-    → cond r (served end) (refused (fault 18 cs end)) ≡ expect 10 cs next → x ≡ then (expect 10 bs next) (λ rest. served (f rest)) → served (f end) ≡ x
-line-ended f bs cs next end r x b t a e =
-    let s : served end ≡ expect 10 bs next = rw b at (rw t at a) in ap (λ y. then y (λ rest. served (f rest))) s ∙ sym e
+-- a word of one byte
+pub expect-one : (b : ℕ) (line left : List ℕ) → expect-all (b ∷ []) line left ≡ expect b line left
+expect-one b line left = once (expect b line left)
+  where
+    once : (x : Reply (List ℕ)) → then x (expect-all [] line) ≡ x
+    once (served rest) = refl
+    once (refused r) = refl
 
-pub line-not-ended : {A : Type 0} (f : List ℕ → A) (bs cs ds next end : List ℕ) (r : Bool) (u : LineCause) (x : Reply A) → cs ≡ bs → r ≡ false
-    → cond r (served end) (refused (fault 18 cs end)) ≡ expect 10 cs next → ds ≡ cs → cause-refusal u ≡ fault 18 ds end
+-- the line feed is there, or is not
+pub line-ended : {A : Type 0} (f : List ℕ → A) (bs cs next end : List ℕ) (x : Reply A) → cs ≡ bs → served end ≡ expect 10 cs next
+    → x ≡ then (expect 10 bs next) (λ rest. served (f rest)) → served (f end) ≡ x
+line-ended f bs cs next end x b a e =
+    let s : served end ≡ expect 10 bs next = rw b at a in ap (λ y. then y (λ rest. served (f rest))) s ∙ sym e
+
+pub line-not-ended : {A : Type 0} (f : List ℕ → A) (bs cs ds next end : List ℕ) (u : LineCause) (x : Reply A) → cs ≡ bs
+    → refused (fault 18 cs end) ≡ expect 10 cs next → ds ≡ cs → cause-refusal u ≡ fault 18 ds end
     → x ≡ then (expect 10 bs next) (λ rest. served (f rest)) → refused (cause-refusal u) ≡ x
-line-not-ended f bs cs ds next end r u x b t a d h e =
-    let s : refused (fault 18 bs end) ≡ expect 10 bs next = rw b at (rw t at a) in
+line-not-ended f bs cs ds next end u x b a d h e =
+    let s : refused (fault 18 bs end) ≡ expect 10 bs next = rw b at a in
     ap refused h ∙ ap (λ l. refused (fault 18 l end)) (d ∙ b) ∙ ap (λ y. then y (λ rest. served (f rest))) s ∙ sym e
 
 -- the same bytes, held by another cursor
@@ -110,17 +118,16 @@ pub field-at : (separator : ℕ) (bs cs left : List ℕ) (x : Reply (ℕ × List
 field-at separator bs cs left x b e = rw b at e
 
 -- a line is refused with its first part that is, or else gives its numbers
-pub word-refused : (bs cs left next : List ℕ) (r : Bool) (u : LineCause) → left ≡ bs → r ≡ false
-    → cond r (served next) (refused (fault 18 bs next)) ≡ expect-all task-word bs left → cs ≡ bs → cause-refusal u ≡ fault 18 cs next
+pub word-refused : (bs cs left next : List ℕ) (u : LineCause) → left ≡ bs
+    → refused (fault 18 bs next) ≡ expect-all task-word bs left → cs ≡ bs → cause-refusal u ≡ fault 18 cs next
     → refused (cause-refusal u) ≡ numbers bs
 unfolding numbers
-word-refused bs cs left next r u l t a b e =
-    let s : refused (fault 18 bs next) ≡ expect-all task-word bs bs = rw l at (rw t at a) in
+word-refused bs cs left next u l a b e =
+    let s : refused (fault 18 bs next) ≡ expect-all task-word bs bs = rw l at a in
     ap refused e ∙ ap (λ k. refused (fault 18 k next)) b ∙ sym (then-not (expect-all task-word bs bs) _ _ (sym s))
 
-pub word-read : (bs left next : List ℕ) (r : Bool) → left ≡ bs → r ≡ true
-    → cond r (served next) (refused (fault 18 bs next)) ≡ expect-all task-word bs left → expect-all task-word bs bs ≡ served next
-word-read bs left next r l t a = sym (rw l at (rw t at a))
+pub word-read : (bs left next : List ℕ) → left ≡ bs → served next ≡ expect-all task-word bs left → expect-all task-word bs bs ≡ served next
+word-read bs left next l a = sym (rw l at a)
 
 pub limit-refused : (bs C : List ℕ) (r : Refusal) → expect-all task-word bs bs ≡ served C → field 32 bs C ≡ refused r → numbers bs ≡ refused r
 unfolding numbers

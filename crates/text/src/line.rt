@@ -50,9 +50,9 @@ fn read_staircases(cursor: &mut Cursor) -> Result<Bounded<(u64, u64), 4>, LineCa
             break;
         }
     }
-    if !cursor.take(b'\n') {
+    let Some(()) = cursor.word(b"\n") else {
         return Err(cursor.unexpected());
-    }
+    };
     Ok(pairs)
 }
 
@@ -62,9 +62,9 @@ fn read_numbers(cursor: &mut Cursor) -> Result<LineNumbers, LineCause>
     ensures answer { λ r. ⌜ reply (λ n. (numbers-of n, left-of (now (cursor .exit)))) cause-refusal r ≡ numbers (bytes-of (now (cursor .entry))) ⌝ }
     ensures same { λ _. ⌜ bytes-of (now (cursor .exit)) ≡ bytes-of (now (cursor .entry)) ⌝ }
 {
-    if !cursor.take_word(b"task") {
+    let Some(()) = cursor.word(b"task") else {
         return Err(cursor.unexpected());
-    }
+    };
     let Some(limit) = cursor.field(b' ') else {
         return Err(cursor.unexpected());
     };

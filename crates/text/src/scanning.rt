@@ -50,7 +50,7 @@ impl<'a> Cursor<'a> {
     }
 
     // Reads this byte, if it comes next.
-    pub(crate) fn take(&mut self, byte: u8) -> bool
+    fn take(&mut self, byte: u8) -> bool
         ensures answer { λ r. ⌜ cond r (served (left-of (now (self .exit)))) (refused (fault 18 (bytes-of (now (self .entry))) (left-of (now (self .exit))))) ≡ expect byte (bytes-of (now (self .entry))) (left-of (now (self .entry))) ⌝ }
         ensures same { λ _. ⌜ bytes-of (now (self .exit)) ≡ bytes-of (now (self .entry)) ⌝ }
     {
@@ -61,17 +61,17 @@ impl<'a> Cursor<'a> {
         true
     }
 
-    // Reads the bytes of this word, as far as they come next.
-    pub(crate) fn take_word(&mut self, word: &[u8]) -> bool
-        ensures answer { λ r. ⌜ cond r (served (left-of (now (self .exit)))) (refused (fault 18 (bytes-of (now (self .entry))) (left-of (now (self .exit))))) ≡ expect-all (now (word .entry)) (bytes-of (now (self .entry))) (left-of (now (self .entry))) ⌝ }
+    // Reads the bytes of this word, as far as they come next; there is none where another byte comes.
+    pub(crate) fn word(&mut self, word: &[u8]) -> Option<()>
+        ensures answer { λ r. ⌜ cond (isSome r) (served (left-of (now (self .exit)))) (refused (fault 18 (bytes-of (now (self .entry))) (left-of (now (self .exit))))) ≡ expect-all (now (word .entry)) (bytes-of (now (self .entry))) (left-of (now (self .entry))) ⌝ }
         ensures same { λ _. ⌜ bytes-of (now (self .exit)) ≡ bytes-of (now (self .entry)) ⌝ }
     {
         for byte in word {
             if !self.take(*byte) {
-                return false;
+                return None;
             }
         }
-        true
+        Some(())
     }
 
     // Reads a digit, if one comes next.

@@ -11,16 +11,16 @@ use Rattle.tasks.specs.Reply.{served, then}
 use Rattle.text.specs.Bytes.{expect, starts}
 use Rattle.text.specs.Line.{staircases}
 use Rattle.text.specs.Views.{bytes-of, left-of}
-use Rattle.text.proofs.Fields.{line-ended, line-not-ended, push-fits, staircases-again, staircases-done, staircases-none}
+use Rattle.text.proofs.Fields.{expect-one, line-ended, line-not-ended, push-fits, staircases-again, staircases-done, staircases-none}
 use Rattle.text.proofs.line.read_staircases.Needs as need
-use Rattle.text.proofs.line.read_staircases.Needs.{After-push, After-take, then-as-slice-eq4·by·then-as-slice-eq4, then-as-slice-eq4·by·else-as-slice-eq4·then-not-sees}
+use Rattle.text.proofs.line.read_staircases.Needs.{After-push, After-word, then-as-slice-eq4·by·then-as-slice-eq4, then-as-slice-eq4·by·else-as-slice-eq4·then-not-sees}
 
 -- the staircase of this turn stands behind the others
 added : (c : After-push) → items (c .push .last .self) ≡ items (c .loop-pair .pairs) ++ c .in-Continue-pair .pair ∷ []
 added c = push-fits (items (c .loop-pair .pairs)) _ (c .in-Continue-pair .pair) (c .loop-pair .inv .2) (c .push .ensures .after)
 
 -- no staircase follows it
-done : (c : After-take)
+done : (c : After-word)
     → staircases (bytes-of (c .args .cursor .now)) (left-of (c .args .cursor .now)) ≡ then (expect 10 (bytes-of (c .args .cursor .now)) (left-of (c .read-staircase .last .cursor))) (λ rest. served (items (c .push .last .self), rest))
 done c =
     let e = c .in-Continue-pair .ensures tt in
@@ -54,22 +54,26 @@ loop-pair-again c =
       few,
     )
 
-pub returns-then-not-take : need.returns-then-not-take
-returns-then-not-take c =
+pub returns-in-rest : need.returns-in-rest
+returns-in-rest c =
     let e = c .in-Continue-pair .ensures tt in
-    let t = c .take .ensures in
+    let t = c .in-rest .ensures tt in
     let b = e .same ∙ c .loop-pair .inv .1 in
+    let bytes = bytes-of (c .read-staircase .last .cursor) in
+    let left = left-of (c .read-staircase .last .cursor) in
     record {
-      answer = line-not-ended (λ rest. (items (c .push .last .self), rest)) (bytes-of (c .args .cursor .now)) (bytes-of (c .read-staircase .last .cursor)) _ (left-of (c .read-staircase .last .cursor)) _ (c .take .result) (c .unexpected .result) _ b (c .if-not-take .taken) (t .answer) (t .same) (c .unexpected .ensures) (done (need.at·returns-then-not-take c .After-take));
+      answer = line-not-ended (λ rest. (items (c .push .last .self), rest)) (bytes-of (c .args .cursor .now)) bytes _ left _ (c .unexpected .result) _ b (t .answer ∙ expect-one 10 bytes left) (t .same) (c .unexpected .ensures) (done (need.at·returns-in-rest c .After-word));
       same = t .same ∙ b;
     }
 
 pub returns : need.returns
 returns c =
     let e = c .in-Continue-pair .ensures tt in
-    let t = c .take .ensures in
+    let t = c .in-Some .ensures tt in
     let b = e .same ∙ c .loop-pair .inv .1 in
+    let bytes = bytes-of (c .read-staircase .last .cursor) in
+    let left = left-of (c .read-staircase .last .cursor) in
     record {
-      answer = line-ended (λ rest. (items (c .push .last .self), rest)) (bytes-of (c .args .cursor .now)) (bytes-of (c .read-staircase .last .cursor)) (left-of (c .read-staircase .last .cursor)) _ (c .take .result) _ b (c .if-not-take .left) (t .answer) (done (need.at·returns c .After-take));
+      answer = line-ended (λ rest. (items (c .push .last .self), rest)) (bytes-of (c .args .cursor .now)) bytes left _ _ b (t .answer ∙ expect-one 10 bytes left) (done (need.at·returns c .After-word));
       same = t .same ∙ b;
     }

@@ -1,6 +1,5 @@
 use mathlib.Core.Path.{ap, sym, _∙_}
-use Rattle.text.specs.Views.{bytes-of, left-of}
-use Rattle.text.specs.Views.{field-reply}
+use Rattle.text.specs.Views.{bytes-of, field-reply, left-of}
 use Rattle.text.proofs.Scans.{field-step, field-stop}
 use Rattle.text.proofs.cursor.Cursor.field.Needs as need
 

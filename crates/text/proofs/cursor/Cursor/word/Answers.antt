@@ -1,7 +1,7 @@
 use mathlib.Core.Path.{_∙_}
 use Rattle.text.specs.Views.{bytes-of, left-of}
 use Rattle.text.proofs.Scans.{word-all, word-step, word-stop}
-use Rattle.text.proofs.cursor.Cursor.take_word.Needs as need
+use Rattle.text.proofs.cursor.Cursor.word.Needs as need
 
 pub returns-then-not-take : need.returns-then-not-take
 returns-then-not-take c =

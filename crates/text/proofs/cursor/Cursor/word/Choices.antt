@@ -2,7 +2,7 @@ use mathlib.Core.Path.{_≡_}
 use lib.ListN.{drop}
 use Rattle.text.specs.Views.{bytes-of, left-of}
 use Rattle.text.specs.Bytes.{expect-all}
-use Rattle.text.proofs.cursor.Cursor.take_word.Given as given
+use Rattle.text.proofs.cursor.Cursor.word.Given as given
 
 abbrev pub Inv-loop-byte : given.InvT-loop-byte
 Inv-loop-byte l =
