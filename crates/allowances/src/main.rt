@@ -1,4 +1,5 @@
 // Reads a task table on standard input and prints whether a gate opens on it, and with what allowance under each rule.
+#![tactic(auto)]
 
 mod account;
 

@@ -1,4 +1,5 @@
 // The counters that watch a task's arrivals, and a monitor that admits an arrival only where every staircase allows it.
+#![tactic(auto)]
 
 mod bucket;
 mod counter;

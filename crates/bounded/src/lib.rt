@@ -1,4 +1,5 @@
 // A list of at most N elements that lies in place: no call of it allocates, so it may be used on an audio thread.
+#![tactic(auto)]
 
 mod change;
 mod list;

@@ -1,4 +1,6 @@
-ghost use Rattle.std.specs.Prelude.{◌≤◌, length};
+ghost use Rattle.std.specs.Prelude.{◌≤◌, length, ◌≡◌, ⊤};
+
+use std::alloc::AllocError;
 
 // The first `len` slots hold the list's elements in their order; what stands in the other slots means nothing.
 pub struct Bounded<T, const N: usize> {
@@ -6,6 +8,16 @@ pub struct Bounded<T, const N: usize> {
     pub(crate) len: usize,
     ghost full: { N ≤ length slots },
     ghost within: { len ≤ N },
+}
+
+impl<T: Copy, const N: usize> Clone for Bounded<T, N> {
+    ghost is_clone = { λ x y. y ≡ x };
+
+    ghost is_infallible = { λ _. ⊤ };
+
+    fn clone(&self) -> Result<Bounded<T, N>, AllocError> {
+        Ok(*self)
+    }
 }
 
 impl<T: Copy, const N: usize> Copy for Bounded<T, N> {}

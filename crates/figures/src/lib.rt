@@ -1,5 +1,7 @@
 // Figures shown from the definitions: lists of cases, each with its answer, and one check of a whole list. There is no code here, but
 // a function for each list whose contract it is that the figures hold.
+#![tactic(auto)]
+
 ghost use Rattle.figures.specs.Arrivals.{ArrivalFiguresHold};
 ghost use Rattle.figures.specs.Opening.{OpeningFiguresHold};
 

@@ -12,7 +12,7 @@ use Rattle.arrivals.specs.declared.counter.Counter.{Counter}
 use Rattle.arrivals.specs.declared.counter.Counter.TheVariants.{Full, Short}
 use Rattle.tasks.proofs.Longest.{long_of}
 use Rattle.tasks.specs.Least.{least}
-use Rattle.tasks.specs.Staircase.{StaircaseModel, long_staircase, longer, longest}
+use Rattle.tasks.specs.Staircase.{StaircaseModel, long_staircase, longer, longest, longest_by}
 use Rattle.tasks.specs.Task.{TaskModel, share}
 use Rattle.fit.proofs.Counting.{arrivals_at_none, arrivals_rise, steps_above}
 use Rattle.lanes.specs.Demand.{demand, load}
@@ -32,7 +32,7 @@ least_at_most_each f (x ∷ y ∷ ys) = (
   All-weaker (λ z. least f (y ∷ ys) ≤ f z) (λ z. min (f x) (least f (y ∷ ys)) ≤ f z) (λ z h. omega arith) (y ∷ ys) (least_at_most_each f (y ∷ ys)),
 )
 
-longest_bucket_keeps : (P : BucketModel → Type 0) (b : BucketModel) (bs : List BucketModel) → P b → All P bs → P (longest (λ c. c.staircase) b bs)
+longest_bucket_keeps : (P : BucketModel → Type 0) (b : BucketModel) (bs : List BucketModel) → P b → All P bs → P (longest_by (λ c. c.staircase) b bs)
 longest_bucket_keeps P b [] p ps = p
 longest_bucket_keeps P b (c ∷ cs) p ps =
     longest_bucket_keeps P (cond (longer c.staircase b.staircase) c b) cs
@@ -51,11 +51,11 @@ chosen_staircase : (t : Bool) (b c : BucketModel) → (cond t b c).staircase ≡
 chosen_staircase true b c = refl
 chosen_staircase false b c = refl
 
-longest_bucket_staircase : (b : BucketModel) (bs : List BucketModel) → (longest (λ c. c.staircase) b bs).staircase ≡ longest (λ s. s) b.staircase (map (λ c. c.staircase) bs)
+longest_bucket_staircase : (b : BucketModel) (bs : List BucketModel) → (longest_by (λ c. c.staircase) b bs).staircase ≡ longest b.staircase (map (λ c. c.staircase) bs)
 longest_bucket_staircase b [] = refl
 longest_bucket_staircase b (c ∷ cs) =
     longest_bucket_staircase (cond (longer c.staircase b.staircase) c b) cs
-    ∙ ap (λ s. longest (λ t. t) s (map (λ d. d.staircase) cs)) (chosen_staircase (longer c.staircase b.staircase) c b)
+    ∙ ap (λ s. longest s (map (λ d. d.staircase) cs)) (chosen_staircase (longer c.staircase b.staircase) c b)
 
 -- the long bucket is that of the long staircase
 long_bucket_staircase : (bs : List BucketModel) → (long_bucket bs).staircase ≡ long_staircase (map (λ b. b.staircase) bs)

@@ -4,7 +4,7 @@ use Rattle.std.proofs.lemmas.Bool.{and_parts, cond_both, leb-true}
 use Rattle.std.specs.List.{AllByRecursion as All}
 use Rattle.arrivals.specs.Bucket.{full, long_bucket}
 use Rattle.arrivals.specs.Counter.{sound}
-use Rattle.tasks.specs.Staircase.{StaircaseModel, long_staircase, longer, longest}
+use Rattle.tasks.specs.Staircase.{StaircaseModel, long_staircase, longer, longest, longest_by}
 use Rattle.tasks.specs.Task.{TaskModel, share}
 use Rattle.fit.proofs.Fresh.{all_fresh_formed, fresh_by_tasks, fresh_light}
 use Rattle.fit.proofs.Allowances.{exact_bound, exact_fits, exact_most, line_most, line_passes}
@@ -71,9 +71,9 @@ chosen_full : (b : Bool) (s t : StaircaseModel) → cond b (full s) (full t) ≡
 chosen_full true s t = refl
 chosen_full false s t = refl
 
-longest_full : (s : StaircaseModel) (ss : List StaircaseModel) → longest (λ b. b.staircase) (full s) (map full ss) ≡ full (longest (λ t. t) s ss)
+longest_full : (s : StaircaseModel) (ss : List StaircaseModel) → longest_by (λ b. b.staircase) (full s) (map full ss) ≡ full (longest s ss)
 longest_full s [] = refl
-longest_full s (t ∷ ts) = ap (λ b. longest (λ c. c.staircase) b (map full ts)) (chosen_full (longer t s) t s) ∙ longest_full (cond (longer t s) t s) ts
+longest_full s (t ∷ ts) = ap (λ b. longest_by (λ c. c.staircase) b (map full ts)) (chosen_full (longer t s) t s) ∙ longest_full (cond (longer t s) t s) ts
 
 long_full : (ss : List StaircaseModel) → long_bucket (map full ss) ≡ full (long_staircase ss)
 long_full [] = refl

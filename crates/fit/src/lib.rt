@@ -1,5 +1,6 @@
 // What it takes that every deadline holds: the definitions of fit, of the allowances and of the laws of a rule, and the lemmas
 // that the searches, the rules and the gate share. There is no code here, but a function for each lemma whose contract it is.
+#![tactic(auto)]
 
 mod laws;
 

@@ -1,4 +1,5 @@
 // The gate between a queue of background jobs and the processor.
+#![tactic(auto)]
 
 mod closing;
 mod gate;

@@ -1,4 +1,4 @@
-ghost use Rattle.std.specs.Prelude.{◌≡◌, true, map};
+ghost use Rattle.std.specs.Prelude.{◌≡◌, true, map, ⊤};
 ghost use Rattle.arrivals.specs.Bucket.{counters_of, matched};
 ghost use Rattle.bounded.specs.List.{items};
 ghost use Rattle.lanes.specs.Job.{within_limit};
@@ -7,6 +7,7 @@ ghost use Rattle.tasks.specs.Staircase.{staircase_of};
 use crate::job::Job;
 use arrivals::Counters;
 use bounded::Bounded;
+use std::alloc::AllocError;
 use tasks::Task;
 
 // A task with a counter for each of its staircases and its pending jobs, oldest first. No job has more ticks left than the
@@ -17,6 +18,16 @@ pub struct Lane {
     pub(crate) pending: Bounded<Job, 8>,
     ghost own: { matched (map staircase_of (items task.staircases)) (counters_of counters) ≡ true },
     ghost worked: { within_limit task.limit (items pending) ≡ true },
+}
+
+impl Clone for Lane {
+    ghost is_clone = { λ x y. y ≡ x };
+
+    ghost is_infallible = { λ _. ⊤ };
+
+    fn clone(&self) -> Result<Lane, AllocError> {
+        Ok(*self)
+    }
 }
 
 impl Copy for Lane {}

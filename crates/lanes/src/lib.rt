@@ -1,4 +1,5 @@
 // A critical task with its counters and pending jobs: what it may ask of the processor.
+#![tactic(auto)]
 
 mod job;
 mod lane;

@@ -1,4 +1,5 @@
 // Reads a task table on standard input, brings some arrivals to its first task, and prints an account of what became of them.
+#![tactic(auto)]
 
 mod account;
 mod schedule;

@@ -1,5 +1,6 @@
 // Allowance rules: how much background work may stand before the tasks. A rule is any maker of allowances that keeps the laws;
 // three are here, and a user may bring another.
+#![tactic(auto)]
 
 mod allowance;
 mod exact;

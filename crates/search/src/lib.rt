@@ -1,4 +1,5 @@
 // The searches over the lengths: the first task that does not fit with an amount, and the exact and the line allowance.
+#![tactic(auto)]
 
 mod ahead;
 mod allowance;

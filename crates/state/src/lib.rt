@@ -1,5 +1,6 @@
 // The state of a processor: its clock, the lanes of its tasks, the background jobs handed out, the cost granted and the fresh
 // allowance. It is all that an allowance rule may read.
+#![tactic(auto)]
 
 mod laws;
 mod making;

@@ -5,7 +5,7 @@ use Rattle.std.proofs.lemmas.Bool.{cases_cond, cond_both}
 use Rattle.std.proofs.lemmas.Bool.Decides.{nat_tests}
 use Rattle.std.specs.List.{ContainsAt as Has, AllByRecursion as All}
 use Rattle.tasks.specs.LongStaircase.{LongOf}
-use Rattle.tasks.specs.Staircase.{StaircaseModel, long_staircase, longer, longest, longest_of}
+use Rattle.tasks.specs.Staircase.{StaircaseModel, long_staircase, longer, longest, longest_by, longest_of, no_staircase}
 
 same_either : {A : Type 0} (b : Bool) (x : A) → cond b x x ≡ x
 same_either true x = refl
@@ -13,21 +13,30 @@ same_either false x = refl
 
 -- A loop over things of the code, each seen as something that has a staircase.
 module _ {X A : Type 0} (none : A) (staircase : A → StaircaseModel) (view : X → A) where
-  pub longest_start : (xs : List X) (x : X) → 0 < length xs → x ≡ get_or xs 0 x → longest staircase (view x) (map view xs) ≡ longest_of none staircase (map view xs)
+  pub longest_start : (xs : List X) (x : X) → 0 < length xs → x ≡ get_or xs 0 x → longest_by staircase (view x) (map view xs) ≡ longest_of none staircase (map view xs)
   longest_start [] x h r = absurd (omega arith)
   longest_start (y ∷ ys) x h r =
-      ap (λ z. longest staircase (view z) (map view (y ∷ ys))) r
-      ∙ ap (λ s. longest staircase s (map view ys)) (same_either (longer (staircase (view y)) (staircase (view y))) (view y))
+      ap (λ z. longest_by staircase (view z) (map view (y ∷ ys))) r
+      ∙ ap (λ s. longest_by staircase s (map view ys)) (same_either (longer (staircase (view y)) (staircase (view y))) (view y))
 
   pub longest_more : (xs : List X) (x y z : X) (i : ℕ) (l : A) → i < length xs → x ≡ get_or xs i x → view z ≡ cond (longer (staircase (view x)) (staircase (view y))) (view x) (view y)
-      → longest staircase (view y) (map view (drop i xs)) ≡ l → longest staircase (view z) (map view (drop (i + 1) xs)) ≡ l
+      → longest_by staircase (view y) (map view (drop i xs)) ≡ l → longest_by staircase (view z) (map view (drop (i + 1) xs)) ≡ l
   longest_more xs x y z i l h r e inv =
-      let here : longest staircase (view y) (map view (drop i xs)) ≡ longest staircase (view y) (map view (x ∷ drop (i + 1) xs)) =
-      at_drop_more (λ ys. longest staircase (view y) (map view ys)) xs i x h ∙ ap (λ w. longest staircase (view y) (map view (w ∷ drop (i + 1) xs))) (sym r) in
-      ap (λ s. longest staircase s (map view (drop (i + 1) xs))) e ∙ sym here ∙ inv
+      let here : longest_by staircase (view y) (map view (drop i xs)) ≡ longest_by staircase (view y) (map view (x ∷ drop (i + 1) xs)) =
+      at_drop_more (λ ys. longest_by staircase (view y) (map view ys)) xs i x h ∙ ap (λ w. longest_by staircase (view y) (map view (w ∷ drop (i + 1) xs))) (sym r) in
+      ap (λ s. longest_by staircase s (map view (drop (i + 1) xs))) e ∙ sym here ∙ inv
 
-  pub longest_all : (xs : List X) (y : X) (i : ℕ) (l : A) → length xs ≤ i → longest staircase (view y) (map view (drop i xs)) ≡ l → view y ≡ l
-  longest_all xs y i l h inv = sym (at_drop_all (λ ys. longest staircase (view y) (map view ys)) xs i h) ∙ inv
+  pub longest_all : (xs : List X) (y : X) (i : ℕ) (l : A) → length xs ≤ i → longest_by staircase (view y) (map view (drop i xs)) ≡ l → view y ≡ l
+  longest_all xs y i l h inv = sym (at_drop_all (λ ys. longest_by staircase (view y) (map view ys)) xs i h) ∙ inv
+
+-- the staircase is itself the thing that has it
+longest_as : (s : StaircaseModel) (ss : List StaircaseModel) → longest s ss ≡ longest_by (λ u. u) s ss
+longest_as s [] = refl
+longest_as s (t ∷ ts) = longest_as (cond (longer t s) t s) ts
+
+pub long_staircase_as : (ss : List StaircaseModel) → long_staircase ss ≡ longest_of no_staircase (λ u. u) ss
+long_staircase_as [] = refl
+long_staircase_as (s ∷ ss) = longest_as s ss
 
 -- x is no longer than s, so it is no longer than what is longer than s
 no_longer : (x t s : StaircaseModel) → longer x s ≡ false → longer t s ≡ true → longer x t ≡ false
@@ -36,23 +45,23 @@ no_longer x t s h k = grind (arith, nat_tests)
 not_itself : (s : StaircaseModel) → longer s s ≡ false
 not_itself s = grind (arith, nat_tests)
 
-still_no_longer : (x s : StaircaseModel) (ss : List StaircaseModel) → longer x s ≡ false → longer x (longest (λ u. u) s ss) ≡ false
+still_no_longer : (x s : StaircaseModel) (ss : List StaircaseModel) → longer x s ≡ false → longer x (longest s ss) ≡ false
 still_no_longer x s [] h = h
 still_no_longer x s (t ∷ ts) h =
     still_no_longer x (cond (longer t s) t s) ts (cond_both (longer t s) t s (λ u. longer x u ≡ false) (no_longer x t s h) (λ _. h))
 
-longest_most : (s : StaircaseModel) (ss : List StaircaseModel) → All (λ t. longer t (longest (λ u. u) s ss) ≡ false) ss
+longest_most : (s : StaircaseModel) (ss : List StaircaseModel) → All (λ t. longer t (longest s ss) ≡ false) ss
 longest_most s [] = tt
 longest_most s (u ∷ us) = (
   still_no_longer u (cond (longer u s) u s) us (cond_both (longer u s) u s (λ x. longer u x ≡ false) (λ _. not_itself u) (λ h. h)),
   longest_most (cond (longer u s) u s) us,
 )
 
-longest_own : (s : StaircaseModel) (ss : List StaircaseModel) → Has (s ∷ ss) (longest (λ u. u) s ss)
+longest_own : (s : StaircaseModel) (ss : List StaircaseModel) → Has (s ∷ ss) (longest s ss)
 longest_own s [] = (0, omega arith, λ d. refl)
 longest_own s (t ∷ ts) = placed (longest_own (cond (longer t s) t s) ts)
   where
-    placed : Has (cond (longer t s) t s ∷ ts) (longest (λ u. u) (cond (longer t s) t s) ts) → Has (s ∷ t ∷ ts) (longest (λ u. u) (cond (longer t s) t s) ts)
+    placed : Has (cond (longer t s) t s ∷ ts) (longest (cond (longer t s) t s) ts) → Has (s ∷ t ∷ ts) (longest (cond (longer t s) t s) ts)
     placed (zero, h, e) =
         elim (cases_cond (longer t s) t s (cond (longer t s) t s) refl) [
           | inl a ↦ (1, omega arith, λ d. sym a ∙ e d)

@@ -24,20 +24,26 @@ pending_bound deadline ss = least (allowed_in (deadline - 1)) ss
 abbrev pub longer : StaircaseModel → StaircaseModel → Bool
 longer s t = nat_lt t.step s.step || (s.step == t.step && nat_lt s.burst t.burst)
 
+-- the longest of s and those after it; among equals the first
+abbrev pub longest : StaircaseModel → List StaircaseModel → StaircaseModel
+longest s [] = s
+longest s (t ∷ ts) = longest (cond (longer t s) t s) ts
+
+-- the long staircase of a task; the empty list, which no task has, gives 0/1
+abbrev pub long_staircase : List StaircaseModel → StaircaseModel
+long_staircase [] = record { burst = 0; step = 1 }
+long_staircase (s ∷ ss) = longest s ss
+
 -- of things that each have a staircase: the one with the longest staircase of x and those after it; among equals the first
-abbrev pub longest : {A : Type 0} → (A → StaircaseModel) → A → List A → A
-longest staircase x [] = x
-longest staircase x (y ∷ ys) = longest staircase (cond (longer (staircase y) (staircase x)) y x) ys
+abbrev pub longest_by : {A : Type 0} → (A → StaircaseModel) → A → List A → A
+longest_by staircase x [] = x
+longest_by staircase x (y ∷ ys) = longest_by staircase (cond (longer (staircase y) (staircase x)) y x) ys
 
 -- the one with the longest staircase; the empty list has none
 abbrev pub longest_of : {A : Type 0} → A → (A → StaircaseModel) → List A → A
 longest_of none staircase [] = none
-longest_of none staircase (x ∷ xs) = longest staircase x xs
+longest_of none staircase (x ∷ xs) = longest_by staircase x xs
 
 -- 0/1, which stands for the longest of no staircases; no task has none
 abbrev pub no_staircase : StaircaseModel
 no_staircase = record { burst = 0; step = 1 }
-
--- the long staircase of a task
-abbrev pub long_staircase : List StaircaseModel → StaircaseModel
-long_staircase ss = longest_of no_staircase (λ s. s) ss

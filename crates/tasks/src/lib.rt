@@ -1,4 +1,5 @@
 // Staircase bounds on arrivals, the tasks that have them, and the draft in which a task set is put together.
+#![tactic(auto)]
 
 mod draft;
 mod entering;
@@ -9,6 +10,7 @@ mod staircase;
 mod task;
 #[cfg(test)]
 mod tests;
+mod totals;
 
 pub use draft::Draft;
 pub use refusal::{EntryRefusal, Quantity};

@@ -5,7 +5,6 @@ ghost use Rattle.tasks.specs.LongStaircase.{LongOf};
 ghost use Rattle.tasks.specs.EntryRefusal.{entry_refusal};
 ghost use Rattle.tasks.specs.Staircase.{long_staircase, longer, staircase_of};
 ghost use Rattle.tasks.specs.Task.{share, task_of};
-ghost use Rattle.tasks.specs.TaskSet.{peak_of, peak_work, shares};
 
 use crate::draft::Draft;
 use crate::refusal::EntryRefusal;
@@ -28,31 +27,6 @@ impl Draft {
         ensures bound { length result.now ≤ 8 }
     {
         self.tasks.as_slice()
-    }
-
-    // The shares of the tasks together, in 1024ths of the processor.
-    pub fn shares(&self) -> u64
-        ensures value { result ≡ shares (draft_of self.now) }
-        ensures bound { result ≤ 524288 }
-    {
-        let mut shares = 0;
-        for task in self.tasks.as_slice() {
-            shares += task.share();
-        }
-        shares
-    }
-
-    // A bound on the work that can stand at one instant: 1,024 ticks of background work and, for each task, eight pending jobs and
-    // a burst of jobs more.
-    pub fn peak_work(&self) -> u64
-        ensures value { result ≡ peak_work (draft_of self.now) }
-        ensures bound { result ≤ 9216 }
-    {
-        let mut work = 1024;
-        for task in self.tasks.as_slice() {
-            work += task.peak_work();
-        }
-        work
     }
 }
 
@@ -79,16 +53,6 @@ impl Task {
     {
         let staircase = self.long_staircase();
         (1024 * self.limit + (staircase.step - 1)) / staircase.step
-    }
-}
-
-impl Task {
-    // A bound on the work of the task that can stand at one instant: eight pending jobs and a burst of jobs more.
-    fn peak_work(&self) -> u64
-        ensures value { result ≡ peak_of (task_of self.now) }
-        ensures bound { result ≤ 1024 }
-    {
-        self.limit * (8 + self.long_staircase().burst)
     }
 }
 

@@ -1,5 +1,6 @@
 // The text form of a task table: `task`, limit, deadline and staircases on each line. The reader works on the caller's bytes, the
 // writer into the caller's buffer, and each undoes the other.
+#![tactic(auto)]
 
 mod cursor;
 mod fault;

@@ -1,5 +1,7 @@
 // An allowance rule of a device maker's own, written above the library as any user would: background work is handed out only
 // while the processor is idle, and then up to the fresh allowance.
+#![tactic(auto)]
+
 ghost use Rattle.std.specs.Prelude.{◌≡◌};
 ghost use Rattle.state.specs.State.{state_of};
 ghost use Rattle.when_idle.specs.WhenIdle.{when_idle};

@@ -11,9 +11,9 @@ loop-instant-preserved c =
     let instants = c.args.instants.now in
     let i = c.loop-instant.instant-index in
     let before = vec_items c.loop-instant.records in
-    let ticks = c.in-ok-wait.ensures ∙ ap (λ n. events before ++ replicate n Tick) c.saturating-sub.ensures in
+    let ticks = c.in_ok-wait.ensures ∙ ap (λ n. events before ++ replicate n Tick) c.saturating_sub.ensures in
     arrived_more instants i c.loop-instant.clock c.max-clock.result 0 before (vec_items c.wait.new.records) _ _ c.loop-instant-test.true refl
-    c.loop-instant.invariant ticks c.in-ok-push.ensures.items c.max-clock.ensures
+    c.loop-instant.invariant ticks c.in_ok-push.ensures.items c.max-clock.ensures
 
 pub returns : goal.returns
 returns c =

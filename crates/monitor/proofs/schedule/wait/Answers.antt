@@ -10,7 +10,7 @@ loop-init c = sym (append-nil (events (vec_items c.args.records.now)))
 
 pub loop-preserved : goal.loop-preserved
 loop-preserved c =
-    waited_more (events (vec_items c.args.records.now)) (vec_items c.loop.records) _ _ c.loop.counter refl c.loop.invariant c.in-ok-push.ensures.items
+    waited_more (events (vec_items c.args.records.now)) (vec_items c.loop.records) _ _ c.loop.counter refl c.loop.invariant c.in_ok-push.ensures.items
 
 pub returns : goal.returns
 returns c =

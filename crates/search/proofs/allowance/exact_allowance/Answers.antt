@@ -15,5 +15,5 @@ returns c =
     let r = c.greatest.result in
     let formed = lanes_formed (items lanes.lanes) in
     let found = exact_found c.args.clock r (lanes_of lanes) formed lanes.light c.greatest.ensures.top
-    (subst (λ (ls : List LaneModel). WeighsUpTo (load_by Staircases) c.args.clock ls r) c.as-slice.ensures.value c.greatest.ensures.passes) in
+    (subst (λ (ls : List LaneModel). WeighsUpTo (load_by Staircases) c.args.clock ls r) c.as_slice.ensures.value c.greatest.ensures.passes) in
     record { value = found; greatest = subst (ExactlyFits c.args.clock (lanes_of lanes)) (sym found) (exact_fits c.args.clock (lanes_of lanes) formed lanes.light) }

@@ -14,12 +14,12 @@ returns c =
     let lanes = c.args.lanes.now in
     let ls = lanes_of lanes in
     let formed = lanes_formed (items lanes.lanes) in
-    let slice = map lane_of c.as-slice.result.now in
+    let slice = map lane_of c.as_slice.result.now in
     let here : FirstMisfit c.args.clock (min c.args.amount 5120) slice c.search.result =
     subst (λ (w : ℕ). FirstMisfit c.args.clock w slice c.search.result) c.min.ensures c.search.ensures in
     let first : FirstMisfit c.args.clock c.args.amount ls c.search.result =
     enough_to_search c.args.clock c.args.amount ls c.search.result formed
-    (subst (λ (ms : List LaneModel). FirstMisfit c.args.clock (min c.args.amount 5120) ms c.search.result) c.as-slice.ensures.value here) in
+    (subst (λ (ms : List LaneModel). FirstMisfit c.args.clock (min c.args.amount 5120) ms c.search.result) c.as_slice.ensures.value here) in
     record {
       value = one_answer c.args.clock c.args.amount ls c.search.result (first_misfit c.args.clock c.args.amount ls) first
           (search_finds c.args.clock c.args.amount ls formed lanes.light);

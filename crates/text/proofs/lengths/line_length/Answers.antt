@@ -7,5 +7,5 @@ use Rattle.text.proofs.lengths.line_length.Goals as goal
 pub returns : goal.returns
 returns c =
     let n = line_text_parts (task_of c.args.task.now) in
-    let m = ap (λ ss. length (staircases_text ss)) c.as-slice.ensures.value in
+    let m = ap (λ ss. length (staircases_text ss)) c.as_slice.ensures.value in
     record { value = omega arith; bound = omega arith }

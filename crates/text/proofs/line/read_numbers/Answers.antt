@@ -14,76 +14,76 @@ word : (c : In-Some) → expect_all task_word (bytes_of c.args.cursor.now) (byte
 word c = word_read (bytes_of c.args.cursor.now) (left_of c.args.cursor.now) _ c.requires c.in-Some.ensures.answer
 
 limit : (c : In-ok-limit)
-    → field 32 (bytes_of c.args.cursor.now) (left_of c.word.new.self) ≡ served (c.in-ok-limit.limit, left_of c.field.new.self)
+    → field 32 (bytes_of c.args.cursor.now) (left_of c.word.new.self) ≡ served (c.in_ok-limit.limit, left_of c.field.new.self)
 limit c =
-    field_at 32 _ _ _ _ c.word.ensures.same (given _ _ c.in-Some-field.limit _ _ c.in-Some-field.ensures.answer c.in-ok-limit.was)
+    field_at 32 _ _ _ _ c.word.ensures.same (given _ _ c.in-Some-field.limit _ _ c.in-Some-field.ensures.answer c.in_ok-limit.was)
 
 deadline : (c : In-ok-deadline)
-    → field 32 (bytes_of c.args.cursor.now) (left_of c.field.new.self) ≡ served (c.in-ok-deadline.deadline, left_of c.field-2.new.self)
+    → field 32 (bytes_of c.args.cursor.now) (left_of c.field.new.self) ≡ served (c.in_ok-deadline.deadline, left_of c.field-2.new.self)
 deadline c =
-    field_at 32 _ _ _ _ (c.in-Some-field.ensures.same ∙ c.word.ensures.same) (given _ _ c.in-Some-field-2.deadline _ _ c.in-Some-field-2.ensures.answer c.in-ok-deadline.was)
+    field_at 32 _ _ _ _ (c.in-Some-field.ensures.same ∙ c.word.ensures.same) (given _ _ c.in-Some-field-2.deadline _ _ c.in-Some-field-2.ensures.answer c.in_ok-deadline.was)
 
-pub returns-in-default : goal.returns-in-default
-returns-in-default c =
-    let t = c.in-default.ensures in
+pub returns-in_default : goal.returns-in_default
+returns-in_default c =
+    let t = c.in_default.ensures in
     let s = c.args.cursor.now in
     record {
       answer = word_refused (bytes_of s) _ (left_of s) _ c.unexpected.result c.requires t.answer t.same c.unexpected.ensures;
       same = t.same;
     }
 
-pub returns-in-default-field : goal.returns-in-default-field
-returns-in-default-field c =
+pub returns-in_default-field : goal.returns-in_default-field
+returns-in_default-field c =
     let t = c.word.ensures.same in
-    let e = c.in-default-field.ensures in
+    let e = c.in_default-field.ensures in
     record {
-      answer = sym (limit_refused (bytes_of c.args.cursor.now) _ _ (word (goal.at.returns-in-default-field c).In-Some) (field_at 32 _ _ _ _ t (stopped _ _ _ c.unexpected-in-default-field.result _ e.answer e.same c.unexpected-in-default-field.ensures)));
+      answer = sym (limit_refused (bytes_of c.args.cursor.now) _ _ (word (goal.at.returns-in_default-field c).In-Some) (field_at 32 _ _ _ _ t (stopped _ _ _ c.unexpected-in_default-field.result _ e.answer e.same c.unexpected-in_default-field.ensures)));
       same = e.same ∙ t;
     }
 
-pub returns-in-err-limit : goal.returns-in-err-limit
-returns-in-err-limit c =
+pub returns-in_err-limit : goal.returns-in_err-limit
+returns-in_err-limit c =
     let t = c.word.ensures.same in
     let e = c.in-Some-field.ensures in
     record {
-      answer = passed_on _ c.from-residual.result _ _ c.from-residual.ensures.1
-          (limit_refused (bytes_of c.args.cursor.now) _ _ (word (goal.at.returns-in-err-limit c).In-Some) (field_at 32 _ _ _ _ t (wrong _ _ c.in-Some-field.limit _ _ e.answer c.in-err-limit.was)));
+      answer = passed_on _ c.from_residual.result _ _ c.from_residual.ensures.1
+          (limit_refused (bytes_of c.args.cursor.now) _ _ (word (goal.at.returns-in_err-limit c).In-Some) (field_at 32 _ _ _ _ t (wrong _ _ c.in-Some-field.limit _ _ e.answer c.in_err-limit.was)));
       same = e.same ∙ t;
     }
 
-pub returns-in-default-field-2 : goal.returns-in-default-field-2
-returns-in-default-field-2 c =
+pub returns-in_default-field-2 : goal.returns-in_default-field-2
+returns-in_default-field-2 c =
     let t = c.in-Some-field.ensures.same ∙ c.word.ensures.same in
-    let e = c.in-default-field-2.ensures in
+    let e = c.in_default-field-2.ensures in
     record {
-      answer = sym (deadline_refused (bytes_of c.args.cursor.now) _ _ _ _ (word (goal.at.returns-in-default-field-2 c).In-Some) (limit (goal.at.returns-in-default-field-2 c).In-ok-limit) (field_at 32 _ _ _ _ t (stopped _ _ _ c.unexpected-in-default-field-2.result _ e.answer e.same c.unexpected-in-default-field-2.ensures)));
+      answer = sym (deadline_refused (bytes_of c.args.cursor.now) _ _ _ _ (word (goal.at.returns-in_default-field-2 c).In-Some) (limit (goal.at.returns-in_default-field-2 c).In-ok-limit) (field_at 32 _ _ _ _ t (stopped _ _ _ c.unexpected-in_default-field-2.result _ e.answer e.same c.unexpected-in_default-field-2.ensures)));
       same = e.same ∙ t;
     }
 
-pub returns-in-err-deadline : goal.returns-in-err-deadline
-returns-in-err-deadline c =
+pub returns-in_err-deadline : goal.returns-in_err-deadline
+returns-in_err-deadline c =
     let t = c.in-Some-field.ensures.same ∙ c.word.ensures.same in
     let e = c.in-Some-field-2.ensures in
     record {
-      answer = passed_on _ c.from-residual-in-err-deadline.result _ _ c.from-residual-in-err-deadline.ensures.1
-          (deadline_refused (bytes_of c.args.cursor.now) _ _ _ _ (word (goal.at.returns-in-err-deadline c).In-Some) (limit (goal.at.returns-in-err-deadline c).In-ok-limit) (field_at 32 _ _ _ _ t (wrong _ _ c.in-Some-field-2.deadline _ _ e.answer c.in-err-deadline.was)));
+      answer = passed_on _ c.from_residual-in_err-deadline.result _ _ c.from_residual-in_err-deadline.ensures.1
+          (deadline_refused (bytes_of c.args.cursor.now) _ _ _ _ (word (goal.at.returns-in_err-deadline c).In-Some) (limit (goal.at.returns-in_err-deadline c).In-ok-limit) (field_at 32 _ _ _ _ t (wrong _ _ c.in-Some-field-2.deadline _ _ e.answer c.in_err-deadline.was)));
       same = e.same ∙ t;
     }
 
-pub returns-in-err-staircases : goal.returns-in-err-staircases
-returns-in-err-staircases c =
+pub returns-in_err-staircases : goal.returns-in_err-staircases
+returns-in_err-staircases c =
     let t = c.in-Some-field-2.ensures.same ∙ (c.in-Some-field.ensures.same ∙ c.word.ensures.same) in
-    let e = c.in-err-staircases.ensures in
+    let e = c.in_err-staircases.ensures in
     record {
-      answer = passed_on _ c.from-residual-in-err-staircases.result _ _ c.from-residual-in-err-staircases.ensures.1
-          (staircases_refused (bytes_of c.args.cursor.now) _ _ _ _ _ _ (word (goal.at.returns-in-err-staircases c).In-Some) (limit (goal.at.returns-in-err-staircases c).In-ok-limit) (deadline (goal.at.returns-in-err-staircases c).In-ok-deadline) (staircases_at _ _ _ _ t (sym e.answer)));
+      answer = passed_on _ c.from_residual-in_err-staircases.result _ _ c.from_residual-in_err-staircases.ensures.1
+          (staircases_refused (bytes_of c.args.cursor.now) _ _ _ _ _ _ (word (goal.at.returns-in_err-staircases c).In-Some) (limit (goal.at.returns-in_err-staircases c).In-ok-limit) (deadline (goal.at.returns-in_err-staircases c).In-ok-deadline) (staircases_at _ _ _ _ t (sym e.answer)));
       same = e.same ∙ t;
     }
 
 pub returns : goal.returns
 returns c =
     let t = c.in-Some-field-2.ensures.same ∙ (c.in-Some-field.ensures.same ∙ c.word.ensures.same) in
-    let e = c.in-ok-staircases.ensures in
+    let e = c.in_ok-staircases.ensures in
     record {
       answer = sym (numbers_from (bytes_of c.args.cursor.now) _ _ _ _ _ _ _ (word (goal.at.returns c).In-Some) (limit (goal.at.returns c).In-ok-limit) (deadline (goal.at.returns c).In-ok-deadline) (staircases_at _ _ _ _ t (sym e.answer)));
       same = e.same ∙ t;

@@ -6,5 +6,5 @@ pub returns : goal.returns
 returns c =
     record {
       place = search rules;
-      after = put_next c.args.at _ (c.args.separator ∷ []) (decimal c.args.number) c.args.buffer.now _ _ (omega arith) (put_byte c.args.at c.args.separator c.args.buffer.now (omega arith)) (omega arith) c.put-decimal.ensures.after;
+      after = put_next c.args.at _ (c.args.separator ∷ []) (decimal c.args.number) c.args.buffer.now _ _ (omega arith) (put_byte c.args.at c.args.separator c.args.buffer.now (omega arith)) (omega arith) c.put_decimal.ensures.after;
     }

@@ -5,8 +5,8 @@ use Rattle.text.proofs.Puts.{parts_more, put_all, put_rest}
 use Rattle.text.proofs.ReadsBack.{staircases_text}
 use Rattle.text.proofs.putting.put_staircases.Goals as goal
 
-pub put-staircase-place-requires : goal.put-staircase-place-requires
-put-staircase-place-requires c =
+pub put_staircase-place-requires : goal.put_staircase-place-requires
+put_staircase-place-requires c =
     let ss = c.args.staircases.now in
     let i = c.loop-staircase.staircase-index in
     let s = c.staircase-item.result in
@@ -21,7 +21,7 @@ loop-staircase-preserved c =
     let s = c.staircase-item.result in
     let e = parts_more staircase_text staircase_of ss i s c.loop-staircase-test.true c.staircase-item.is in
     let a = ap length e in
-    let p = put_rest c.loop-staircase.place _ (staircase_text (staircase_of s)) (staircases_text (drop (i + 1) ss)) c.loop-staircase.buffer _ (omega (arith, a, c.requires, c.loop-staircase.auto.buffer, c.loop-staircase.invariant.1)) c.put-staircase-place.ensures.after c.put-staircase-place.ensures.place in
+    let p = put_rest c.loop-staircase.place _ (staircase_text (staircase_of s)) (staircases_text (drop (i + 1) ss)) c.loop-staircase.buffer _ (omega (arith, a, c.requires, c.loop-staircase.auto.buffer, c.loop-staircase.invariant.1)) c.put_staircase-place.ensures.after c.put_staircase-place.ensures.place in
     (p.0 ∙ ap (λ l. put_at c.loop-staircase.place l c.loop-staircase.buffer) (sym e) ∙ c.loop-staircase.invariant.0, p.1 ∙ ap (λ l. c.loop-staircase.place + length l) (sym e) ∙ c.loop-staircase.invariant.1)
 
 pub returns : goal.returns

@@ -6,5 +6,5 @@ pub returns : goal.returns
 returns c =
     record {
       place = search rules;
-      after = put_slice c.args.at _ c.args.buffer.now _ c.args.word.now c.copy-from-slice.ensures.after (omega arith);
+      after = put_slice c.args.at _ c.args.buffer.now _ c.args.word.now c.copy_from_slice.ensures.after (omega arith);
     }

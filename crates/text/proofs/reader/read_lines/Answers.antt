@@ -8,33 +8,33 @@ use Rattle.text.proofs.reader.read_lines.Goals.{In-ok-length}
 
 -- the line of this turn
 line : (c : In-ok-length)
-    → (line_entered (draft_of c.loop-start.draft) (drop c.loop-start.start c.args.text.now) ≡ served (draft_of c.enter-line-at.new.draft, drop c.in-ok-length.length (drop c.loop-start.start c.args.text.now)))
-    × (c.in-ok-length.length ≤ length (drop c.loop-start.start c.args.text.now))
+    → (line_entered (draft_of c.loop-start.draft) (drop c.loop-start.start c.args.text.now) ≡ served (draft_of c.enter_line_at.new.draft, drop c.in_ok-length.length (drop c.loop-start.start c.args.text.now)))
+    × (c.in_ok-length.length ≤ length (drop c.loop-start.start c.args.text.now))
 line c =
     let text = c.args.text.now in
     let start = c.loop-start.start in
-    was_entered (draft_of c.loop-start.draft) (draft_of c.enter-line-at.new.draft) (drop start text) c.enter-line-at.result c.loop-start.number start c.in-ok-length.length c.in-ok-length.ensures c.enter-line-at.ensures.answer c.enter-line-at.ensures.within
+    was_entered (draft_of c.loop-start.draft) (draft_of c.enter_line_at.new.draft) (drop start text) c.enter_line_at.result c.loop-start.number start c.in_ok-length.length c.in_ok-length.ensures c.enter_line_at.ensures.answer c.enter_line_at.ensures.within
 
-pub returns-in-err-length : goal.returns-in-err-length
-returns-in-err-length c =
+pub returns-in_err-length : goal.returns-in_err-length
+returns-in_err-length c =
     let text = c.args.text.now in
     let start = c.loop-start.start in
-    let g = c.in-err-length.field-0.0 in
+    let g = c.in_err-length.field-0.0 in
     let j = c.loop-start.invariant in
-    let p = was_refused (draft_of c.loop-start.draft) (draft_of c.enter-line-at.new.draft) (drop start text) c.enter-line-at.result c.loop-start.number start g c.in-err-length.ensures c.enter-line-at.ensures.answer in
-    table_refused text (draft_of c.loop-start.draft) c.from-residual.result draft_of c.loop-start.number start g c.loop-start-test.true j.2 p.0 p.1 c.from-residual.ensures.1 ∙ j.0
+    let p = was_refused (draft_of c.loop-start.draft) (draft_of c.enter_line_at.new.draft) (drop start text) c.enter_line_at.result c.loop-start.number start g c.in_err-length.ensures c.enter_line_at.ensures.answer in
+    table_refused text (draft_of c.loop-start.draft) c.from_residual.result draft_of c.loop-start.number start g c.loop-start-test.true j.2 p.0 p.1 c.from_residual.ensures.1 ∙ j.0
 
 pub overflow-add-start : goal.overflow-add-start
 overflow-add-start c =
     let p = line (goal.at.overflow-add-start c).In-ok-length in
     let l = length-drop c.loop-start.start c.args.text.now in
-    let k : c.loop-start.start + c.in-ok-length.length ≤ 4096 = omega (arith, p.1, l, c.loop-start-test.true, c.requires) in
+    let k : c.loop-start.start + c.in_ok-length.length ≤ 4096 = omega (arith, p.1, l, c.loop-start-test.true, c.requires) in
     search rules
 
 pub loop-start-smaller : goal.loop-start-smaller
 loop-start-smaller c =
     let p = line (goal.at.loop-start-smaller c).In-ok-length in
-    let n = lines_next c.args.text.now (draft_of c.loop-start.draft) (draft_of c.enter-line-at.new.draft) c.loop-start.number c.loop-start.start c.in-ok-length.length c.loop-start-test.true c.loop-start.invariant.2 p.0 in
+    let n = lines_next c.args.text.now (draft_of c.loop-start.draft) (draft_of c.enter_line_at.new.draft) c.loop-start.number c.loop-start.start c.in_ok-length.length c.loop-start-test.true c.loop-start.invariant.2 p.0 in
     omega (arith, n.1, c.loop-start-test.true)
 
 pub loop-start-preserved : goal.loop-start-preserved
@@ -42,7 +42,7 @@ loop-start-preserved c =
     let j = c.loop-start.invariant in
     let p = line (goal.at.loop-start-preserved c).In-ok-length in
     let l = length-drop c.loop-start.start c.args.text.now in
-    let n = lines_next c.args.text.now (draft_of c.loop-start.draft) (draft_of c.enter-line-at.new.draft) c.loop-start.number c.loop-start.start c.in-ok-length.length c.loop-start-test.true j.2 p.0 in
+    let n = lines_next c.args.text.now (draft_of c.loop-start.draft) (draft_of c.enter_line_at.new.draft) c.loop-start.number c.loop-start.start c.in_ok-length.length c.loop-start-test.true j.2 p.0 in
     (n.0 ∙ j.0, omega arith, omega (arith, n.1, j.2), omega (arith, p.1, l, j.3))
 
 pub returns : goal.returns

@@ -5,11 +5,11 @@ use Rattle.text.specs.Reading.{read_after, reading}
 use Rattle.text.proofs.WrittenBack.{written_back}
 use Rattle.text.proofs.reader.read_table.Goals as goal
 
-pub returns-in-err-draft : goal.returns-in-err-draft
+pub returns-in_err-draft : goal.returns-in_err-draft
 unfolding reading
-returns-in-err-draft c =
-    let e = c.in-err-draft.ensures in
-    let p = err_from_is_err_and c.from-residual.result c.from-residual.ensures.1 in
+returns-in_err-draft c =
+    let e = c.in_err-draft.ensures in
+    let p = err_from_is_err_and c.from_residual.result c.from_residual.ensures.1 in
     record {
       answer = rw (p.1, p.2) e;
       after = ap (read_after (draft_of c.args.draft.now)) e;
@@ -19,5 +19,5 @@ returns-in-err-draft c =
 pub returns : goal.returns
 unfolding reading
 returns c =
-    let e = c.in-ok-draft.ensures in
+    let e = c.in_ok-draft.ensures in
     record { answer = e; after = ap (read_after (draft_of c.args.draft.now)) e; written_back = written_back c.args.text.now }

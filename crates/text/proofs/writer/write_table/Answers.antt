@@ -9,8 +9,8 @@ returns c =
     let held = c.args.buffer.now in
     let same = c.tasks.ensures.value in
     record {
-      answer = c.write-tasks.ensures.answer ∙ ap (λ ts. write_answer ts held) same;
-      after = c.write-tasks.ensures.after ∙ ap (λ ts. write_after ts held) same;
-      within = c.write-tasks.ensures.within;
+      answer = c.write_tasks.ensures.answer ∙ ap (λ ts. write_answer ts held) same;
+      after = c.write_tasks.ensures.after ∙ ap (λ ts. write_after ts held) same;
+      within = c.write_tasks.ensures.within;
       reads_back = subst ReadsBack same (reads_back c.tasks.result.now c.tasks.ensures.bound);
     }

@@ -9,7 +9,7 @@ use Rattle.arrivals.proofs.counters.Counters.arrivals_within.Goals as goal
 
 pub loop-bucket-preserved : goal.loop-bucket-preserved
 loop-bucket-preserved c =
-    let buckets = c.as-slice-buckets.result.now in
+    let buckets = c.as_slice-buckets.result.now in
     let rest = take (length buckets - 1) (drop 1 buckets) in
     let i = c.loop-bucket.bucket-index in
     let f = λ (b : Bucket). bucket_allows c.args.instants (bucket_of b) in
@@ -20,11 +20,11 @@ loop-bucket-preserved c =
 
 found : (c : goal.After-loop-bucket) → c.loop-bucket.least ≡ arrivals_within c.args.instants (counters_of c.args.self.now)
 found c =
-    let buckets = c.as-slice-buckets.result.now in
+    let buckets = c.as_slice-buckets.result.now in
     least_found (bucket_allows c.args.instants) bucket_of buckets c.first-item.result c.loop-bucket.least c.loop-bucket.bucket-index (search rules) c.first-item.is
     (c.loop-bucket.invariant ∙ ap (λ m. fold (λ a b. min a (bucket_allows c.args.instants (bucket_of b))) m (take c.loop-bucket.bucket-index (take (length buckets - 1) (drop 1 buckets)))) c.allows-least.ensures)
     c.loop-bucket-test.false
-    ∙ ap (λ bs. arrivals_within c.args.instants (map bucket_of bs)) c.as-slice-buckets.ensures.value
+    ∙ ap (λ bs. arrivals_within c.args.instants (map bucket_of bs)) c.as_slice-buckets.ensures.value
 
 pub returns : goal.returns
 returns c =

@@ -6,8 +6,7 @@ use Rattle.tasks.specs.Staircase.{staircase_of}
 use Rattle.arrivals.proofs.Matched.{still_matched}
 use Rattle.arrivals.proofs.monitor.Monitor.arrive.Goals as goal
 
-pub invariant-of-self : goal.invariant-of-self
-invariant-of-self c =
+pub invariant_of-self-clause-own : goal.invariant_of-self-clause-own
+invariant_of-self-clause-own c =
     let m = c.args.self.now in
-    let own = still_matched Arrival (map staircase_of (items m.task.staircases)) (counters_of m.counters) _ c.step.ensures m.own in
-    (own, (search rules, tt))
+    still_matched Arrival (map staircase_of (items m.task.staircases)) (counters_of m.counters) _ c.step.ensures m.own

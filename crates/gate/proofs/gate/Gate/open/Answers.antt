@@ -16,15 +16,15 @@ use Rattle.gate.specs.declared.offer.Offer.{Offer}
 use Rattle.gate.proofs.Openings.{opens_rightly, prepared_refused, prepared_served}
 use Rattle.gate.proofs.gate.Gate.open.Goals as goal
 
-pub returns-in-err-state : goal.returns-in-err-state
-returns-in-err-state g c =
+pub returns-in_err-state : goal.returns-in_err-state
+returns-in_err-state g c =
     let draft = c.args.draft.now in
     let ts = draft_of draft in
     let reading = c.args.reading in
     let meaning = g.R.Allowance.meaning c.args.self.now.rule in
-    let exit = err_from_is_err_and c.from-residual.result c.from-residual.ensures.1 in
-    let found : open_answer meaning reading ts ≡ refused (open_refusal c.in-err-state.field-0.0) = prepared_refused (open_answer meaning reading ts) _ (fresh_state reading ts) c.in-err-state.ensures.answer in
-    let answer : reply {T = ℕ} {A = ℕ} (λ n. n) open_refusal c.from-residual.result ≡ open_answer meaning reading ts = rw (exit.1, exit.2) (sym found) in
+    let exit = err_from_is_err_and c.from_residual.result c.from_residual.ensures.1 in
+    let found : open_answer meaning reading ts ≡ refused (open_refusal c.in_err-state.field-0.0) = prepared_refused (open_answer meaning reading ts) _ (fresh_state reading ts) c.in_err-state.ensures.answer in
+    let answer : reply {T = ℕ} {A = ℕ} (λ n. n) open_refusal c.from_residual.result ≡ open_answer meaning reading ts = rw (exit.1, exit.2) (sym found) in
     record {
       answer = answer;
       after = sym (ap (λ a. opened_by a reading ts (gate_of c.args.self.now)) found);
@@ -37,14 +37,14 @@ returns g c =
     let draft = c.args.draft.now in
     let ts = draft_of draft in
     let reading = c.args.reading in
-    let n = c.in-ok-state.allowance in
+    let n = c.in_ok-state.allowance in
     let meaning = g.R.Allowance.meaning c.args.self.now.rule in
-    let found = prepared_served (open_answer meaning reading ts) (state_of c.in-ok-state.state) (fresh_state reading ts) n c.in-ok-state.ensures.answer in
+    let found = prepared_served (open_answer meaning reading ts) (state_of c.in_ok-state.state) (fresh_state reading ts) n c.in_ok-state.ensures.answer in
     let state : StateModel → List Offer → GateModel = λ s q. record { state = s; queue = q } in
     record {
       answer = sym found.0;
       after =
-          ap (λ s. state s (items c.empty-queue-self.result)) found.1 ∙ ap (state (fresh_state reading ts)) c.empty-queue-self.ensures
+          ap (λ s. state s (items c.empty_queue-self.result)) found.1 ∙ ap (state (fresh_state reading ts)) c.empty_queue-self.ensures
           ∙ sym (ap (λ a. opened_by a reading ts (gate_of c.args.self.now)) found.0);
       rule = refl;
       right = subst (OpensRightly reading ts) found.0 (opens_rightly reading ts (tasks_formed (items draft.tasks)) (omega (arith, length-map (items draft.tasks) task_of, few_items draft.tasks)) meaning);

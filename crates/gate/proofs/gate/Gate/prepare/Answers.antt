@@ -11,11 +11,11 @@ use Rattle.gate.proofs.gate.Gate.prepare.Goals as goal
 abbrev beside : StateModel → Reply ℕ → Reply (StateModel × ℕ)
 beside fresh a = then a (λ n. served (fresh, n))
 
-pub returns-then-is-empty : goal.returns-then-is-empty
-returns-then-is-empty g c =
+pub returns-then-is_empty : goal.returns-then-is_empty
+returns-then-is_empty g c =
     let ts = draft_of c.args.draft.now in
     let meaning = g.R.Allowance.meaning c.args.self.now.rule in
-    record { answer = sym (ap (beside (fresh_state c.args.reading ts)) (no_task meaning c.args.reading ts (tasks_there c.tasks.result.now ts true c.tasks.ensures.value c.if-is-empty.ensures))) }
+    record { answer = sym (ap (beside (fresh_state c.args.reading ts)) (no_task meaning c.args.reading ts (tasks_there c.tasks.result.now ts true c.tasks.ensures.value c.if-is_empty.ensures))) }
 
 pub returns-then-reading-gt-LAST-READING : goal.returns-then-reading-gt-LAST-READING
 returns-then-reading-gt-LAST-READING g c =
@@ -24,7 +24,7 @@ returns-then-reading-gt-LAST-READING g c =
     record {
       answer =
           sym (ap (beside (fresh_state c.args.reading ts))
-          (too_late meaning c.args.reading ts (tasks_there c.tasks.result.now ts false c.tasks.ensures.value c.if-is-empty.ensures) c.if-reading-gt-LAST-READING.true));
+          (too_late meaning c.args.reading ts (tasks_there c.tasks.result.now ts false c.tasks.ensures.value c.if-is_empty.ensures) c.if-reading-gt-LAST-READING.true));
     }
 
 pub returns-then-allowance-eq0 : goal.returns-then-allowance-eq0
@@ -32,8 +32,8 @@ returns-then-allowance-eq0 g c =
     let ts = draft_of c.args.draft.now in
     let reading = c.args.reading in
     let meaning = g.R.Allowance.meaning c.args.self.now.rule in
-    let found = then_allowed meaning reading c.allowance-allowance.result ts (state_of c.in-Some.state) (tasks_there c.tasks.result.now ts false c.tasks.ensures.value c.if-is-empty.ensures)
-    c.in-Some.ensures c.in-default-first-misfit.ensures.value c.allowance-allowance.ensures.value in
+    let found = then_allowed meaning reading c.allowance-allowance.result ts (state_of c.in-Some.state) (tasks_there c.tasks.result.now ts false c.tasks.ensures.value c.if-is_empty.ensures)
+    c.in-Some.ensures c.in_default-first_misfit.ensures.value c.allowance-allowance.ensures.value in
     record { answer = sym (ap (beside (fresh_state reading ts)) (found.1 ∙ ap allowed c.if-allowance-eq0.true)) }
 
 pub returns : goal.returns
@@ -42,8 +42,8 @@ returns g c =
     let reading = c.args.reading in
     let n = c.allowance-allowance.result in
     let meaning = g.R.Allowance.meaning c.args.self.now.rule in
-    let found = then_allowed meaning reading n ts (state_of c.in-Some.state) (tasks_there c.tasks.result.now ts false c.tasks.ensures.value c.if-is-empty.ensures)
-    c.in-Some.ensures c.in-default-first-misfit.ensures.value c.allowance-allowance.ensures.value in
+    let found = then_allowed meaning reading n ts (state_of c.in-Some.state) (tasks_there c.tasks.result.now ts false c.tasks.ensures.value c.if-is_empty.ensures)
+    c.in-Some.ensures c.in_default-first_misfit.ensures.value c.allowance-allowance.ensures.value in
     record {
       answer =
           ap (λ s. served (s, n)) found.0 ∙ sym (ap (beside (fresh_state reading ts)) (found.1 ∙ allowed_above n c.if-allowance-eq0.false));

@@ -7,10 +7,10 @@ use Rattle.tasks.proofs.Sums.{sum_all, sum_more}
 use Rattle.lanes.proofs.lane.Lane.backlog.Goals as goal
 
 -- the job that the loop is at has at most 64 ticks left
-small : (c : goal.After-job·1) → (get_or c.as-slice-job-items.result.now c.loop-job.job-index (record { due = 0; remaining = 0 })).remaining ≤ 64
+small : (c : goal.After-job·1) → (get_or c.as_slice-job-items.result.now c.loop-job.job-index (record { due = 0; remaining = 0 })).remaining ≤ 64
 small c =
     let lane = c.args.self.now in
-    let same = c.as-slice-job-items.ensures.value in
+    let same = c.as_slice-job-items.ensures.value in
     let most = at_most_limit lane.task.limit (items lane.pending) c.loop-job.job-index (record { due = 0; remaining = 0 }) lane.worked (omega (arith, ap length same, c.loop-job-test.true)) in
     omega (arith, most, lane.task.limit_below, ap (λ (js : List Job). (get_or js c.loop-job.job-index (record { due = 0; remaining = 0 })).remaining) same)
 
@@ -19,15 +19,15 @@ overflow-add-backlog c = omega (arith, small c)
 
 pub loop-job-preserved : goal.loop-job-preserved
 loop-job-preserved c = (
-  sum_more backlog (λ j. j.remaining) (λ j js. refl) (items c.args.self.now.pending) c.as-slice-job-items.result.now c.loop-job.job-index c.loop-job.backlog _ _ (record { due = 0; remaining = 0 })
-      c.as-slice-job-items.ensures.value c.loop-job-test.true refl c.loop-job.invariant.0,
+  sum_more backlog (λ j. j.remaining) (λ j js. refl) (items c.args.self.now.pending) c.as_slice-job-items.result.now c.loop-job.job-index c.loop-job.backlog _ _ (record { due = 0; remaining = 0 })
+      c.as_slice-job-items.ensures.value c.loop-job-test.true refl c.loop-job.invariant.0,
   omega (arith, small c, c.loop-job.invariant.1),
 )
 
 pub returns : goal.returns
 returns c =
     record {
-      value = sum_all backlog (λ j. j.remaining) (λ j js. refl) (items c.args.self.now.pending) c.as-slice-job-items.result.now c.loop-job.job-index c.loop-job.backlog _
-          c.as-slice-job-items.ensures.value c.loop-job-test.false refl c.loop-job.invariant.0;
-      bound = omega (arith, c.loop-job.invariant.1, c.loop-job.auto.job-index-end, c.as-slice-job-items.ensures.bound);
+      value = sum_all backlog (λ j. j.remaining) (λ j js. refl) (items c.args.self.now.pending) c.as_slice-job-items.result.now c.loop-job.job-index c.loop-job.backlog _
+          c.as_slice-job-items.ensures.value c.loop-job-test.false refl c.loop-job.invariant.0;
+      bound = omega (arith, c.loop-job.invariant.1, c.loop-job.auto.job-index-end, c.as_slice-job-items.ensures.bound);
     }

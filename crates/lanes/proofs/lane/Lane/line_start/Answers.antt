@@ -12,7 +12,7 @@ pub returns : goal.returns
 returns c =
     let lane = c.args.self.now in
     let limit = lane.task.limit in
-    let b = bucket_of c.long-bucket-bucket.result in
+    let b = bucket_of c.long_bucket-bucket.result in
     let gathered : c.min-gathered.result ≡ min (share (task_of lane.task) * age b.counter) (1024 * limit) =
     c.min-gathered.ensures ∙ ap (λ s. min (s * c.age.result) (1024 * limit)) c.share.ensures.value ∙ ap (λ g. min (share (task_of lane.task) * g) (1024 * limit)) c.age.ensures.value in
     record {
@@ -20,6 +20,6 @@ returns c =
           ap (λ g. 1024 * (c.backlog.result + limit * c.tokens.result) + g) gathered
           ∙ ap (λ work. 1024 * (work + limit * c.tokens.result) + min (share (task_of lane.task) * age b.counter) (1024 * limit)) c.backlog.ensures.value
           ∙ ap (λ n. 1024 * (backlog (items lane.pending) + limit * n) + min (share (task_of lane.task) * age b.counter) (1024 * limit)) c.tokens.ensures.value
-          ∙ ap (line_from (lane_of lane)) c.long-bucket-bucket.ensures;
+          ∙ ap (line_from (lane_of lane)) c.long_bucket-bucket.ensures;
       bound = omega (arith, mul-le-mul_right c.tokens.result lane.task.limit_below, c.tokens.ensures.bound, c.backlog.ensures.bound, c.min-gathered.ensures, lane.task.limit_below);
     }

@@ -6,7 +6,7 @@ use Rattle.tasks.specs.Staircase.{staircase_of}
 use Rattle.lanes.specs.Job.{within_limit}
 use Rattle.lanes.proofs.lane.Lane.new.Goals as goal
 
-pub invariant-of-result : goal.invariant-of-result
-invariant-of-result c =
+pub invariant_of-result : goal.invariant_of-result
+invariant_of-result c =
     let ss = map staircase_of (items c.args.task.now.staircases) in
-    (ap (matched ss) c.new.ensures ∙ matched_full ss, (ap (within_limit c.args.task.now.limit) c.new-2.ensures, tt))
+    record { own = ap (matched ss) c.new.ensures ∙ matched_full ss; worked = ap (within_limit c.args.task.now.limit) c.new-2.ensures }

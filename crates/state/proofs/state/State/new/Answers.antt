@@ -9,11 +9,11 @@ use Rattle.tasks.specs.TaskSet.{shares}
 use Rattle.state.proofs.Freshness.{fresh_exact, fresh_in_order, made_fresh, nothing_granted}
 use Rattle.state.proofs.state.State.new.Goals as goal
 
-pub invariant-of-result : goal.invariant-of-result
-invariant-of-result c =
+pub invariant_of-result : goal.invariant_of-result
+invariant_of-result c =
     let ts = draft_of c.args.draft.now in
-    let ls = lanes_of c.in-ok-lanes.lanes in
-    let fresh : ls ≡ map fresh_lane ts = made_fresh (leb (shares ts) 960) ls (map fresh_lane ts) c.in-ok-lanes.ensures in (
+    let ls = lanes_of c.in_ok-lanes.lanes in
+    let fresh : ls ≡ map fresh_lane ts = made_fresh (leb (shares ts) 960) ls (map fresh_lane ts) c.in_ok-lanes.ensures in (
       omega (arith, c.if-reading-gt-LAST-READING.false),
       (
         ap (all_in_order c.args.reading) fresh ∙ fresh_in_order c.args.reading ts,
