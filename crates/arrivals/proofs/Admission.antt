@@ -2,7 +2,7 @@
 use Rattle.std.proofs.Common.{◌≡◌, ℕ, ◌+◌, ◌≤◌, ltb, ◌↔◌, List, [], ◌∷◌, ◌++◌, sym, refl, ap, ◌∙◌, subst, inl, inr, append_assoc, add-zero, add_assoc, zero-add, arith}
 use Rattle.std.proofs.lemmas.List.{append-nil}
 use Rattle.std.proofs.lemmas.Bool.{cond_both}
-use Rattle.std.specs.List.{AllByRecursion as All}
+use Rattle.std.specs.List.{AllByRecursion}
 use Rattle.tasks.specs.Reply.{Reply, plain, refused, served}
 use Rattle.tasks.specs.Staircase.{StaircaseModel}
 use Rattle.tasks.specs.Task.{TaskModel}
@@ -78,7 +78,7 @@ admitted t before m f =
     let xs : List ℕ = taken_instants before in
     let due : ℕ = m.clock + m.task.deadline in
     let Kept : StaircaseModel → Type 0 = Keeps (xs ++ (now ∷ [])) in
-    let law : All HasToken m.buckets ↔ All Kept t.staircases = rw f.staircases at (tokens_windows now xs m.buckets f.tracked) in
+    let law : AllByRecursion HasToken m.buckets ↔ AllByRecursion Kept t.staircases = rw f.staircases at (tokens_windows now xs m.buckets f.tracked) in
     elim (arrival_cases m.buckets due) [
       | inl h ↦
           rw h.0 (record {
@@ -94,7 +94,7 @@ admitted t before m f =
           })
     ]
 
-pub all_admitted_rightly : (t : TaskModel) → All (λ s. (1 ≤ s.burst) × (1 ≤ s.step)) t.staircases → (es : List Event) → AllAdmittedRightly t (observations (fresh t) es)
+pub all_admitted_rightly : (t : TaskModel) → AllByRecursion (λ s. (1 ≤ s.burst) × (1 ≤ s.step)) t.staircases → (es : List Event) → AllAdmittedRightly t (observations (fresh t) es)
 all_admitted_rightly t p es before rest answer eq =
     let start : Followed t 0 [] (fresh t) = record { task = refl; clock = refl; staircases = staircases_full t.staircases; tracked = tracked_fresh 0 t.staircases p } in
     let found = answered t 0 [] (fresh t) start es before rest answer eq in

@@ -1,5 +1,5 @@
 -- No staircase allows more than its burst and an arrival at each instant.
-use Rattle.std.proofs.Common.{◌≡◌, ℕ, zero, suc, ◌+◌, ◌*◌, ◌/◌, ◌<◌, ◌≤◌, true, ◌&&◌, ltb, List, [], ◌∷◌, map, div-lt_iff_lt-mul, mul-le-mul_left, arith}
+use Rattle.std.proofs.Common.{◌≡◌, ℕ, zero, suc, ◌+◌, ◌/◌, ◌<◌, ◌≤◌, true, ltb, List, [], ◌∷◌, map, div-lt_iff_lt-mul, mul-le-mul_left, arith}
 use Rattle.std.proofs.lemmas.Bool.{and_parts, ltb-true}
 use Rattle.tasks.specs.Staircase.{StaircaseModel}
 use Rattle.arrivals.specs.Bucket.{arrivals_within, bucket_allows, bucket_of}

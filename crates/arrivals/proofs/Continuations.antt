@@ -3,7 +3,7 @@ use Rattle.std.proofs.Common.{◌≡◌, ℕ, zero, suc, ◌+◌, ◌/◌, ◌<�
 use native.Mathlib.Nat.{add-div_right}
 use Rattle.std.proofs.lemmas.List.{length-map}
 use Rattle.std.proofs.lemmas.Bool.{cond_both, eqb-true}
-use Rattle.std.specs.List.{AllByRecursion as All}
+use Rattle.std.specs.List.{AllByRecursion}
 use Rattle.tasks.specs.Reply.{Reply, refused, served}
 use Rattle.tasks.specs.Staircase.{StaircaseModel}
 use Rattle.arrivals.proofs.All.{all_mapped}
@@ -42,13 +42,13 @@ counter_spent s Full n h = omega arith
 counter_spent s (Short t g) n h = omega arith
 
 -- a tick moves on by one instant, and no more arrivals are allowed at the instants that were to come
-pub tick_allows : (x : ℕ) (bs : List BucketModel) → All (λ b. 1 ≤ b.staircase.step) bs → arrivals_within x (map (bucket_after Tick) bs) ≤ arrivals_within (suc x) bs
+pub tick_allows : (x : ℕ) (bs : List BucketModel) → AllByRecursion (λ b. 1 ≤ b.staircase.step) bs → arrivals_within x (map (bucket_after Tick) bs) ≤ arrivals_within (suc x) bs
 tick_allows x bs p =
     least_at_most (bucket_allows (suc x)) (bucket_allows x) (bucket_after Tick) bs
     (All-weaker (λ b. 1 ≤ b.staircase.step) (λ b. bucket_allows x (bucket_after Tick b) ≤ bucket_allows (suc x) b) (λ b. counter_ticked b.staircase b.counter x) bs p)
 
 -- an arrival that is taken is one of those that were allowed
-pub arrival_spends : (n : ℕ) (bs : List BucketModel) → 1 ≤ length bs → All HasToken bs
+pub arrival_spends : (n : ℕ) (bs : List BucketModel) → 1 ≤ length bs → AllByRecursion HasToken bs
     → arrivals_within (suc n) (map (bucket_after Arrival) bs) + 1 ≡ arrivals_within (suc n) bs
 arrival_spends n [] k h = absurd (omega arith)
 arrival_spends n (b ∷ bs) k h =
@@ -62,7 +62,7 @@ length_left Tick (served n) m = length-map m.buckets (bucket_after Tick)
 length_left Arrival (refused r) m = refl
 length_left Tick (refused r) m = refl
 
-steps_left : (e : Event) (r : Reply ℕ) (m : MonitorModel) → All (λ b. 1 ≤ b.staircase.step) m.buckets → All (λ b. 1 ≤ b.staircase.step) (left_by e r m).buckets
+steps_left : (e : Event) (r : Reply ℕ) (m : MonitorModel) → AllByRecursion (λ b. 1 ≤ b.staircase.step) m.buckets → AllByRecursion (λ b. 1 ≤ b.staircase.step) (left_by e r m).buckets
 steps_left Arrival (served n) m p = all_mapped (λ b. 1 ≤ b.staircase.step) (λ b. 1 ≤ b.staircase.step) (bucket_after Arrival) (λ b h. h) m.buckets p
 steps_left Tick (served n) m p = all_mapped (λ b. 1 ≤ b.staircase.step) (λ b. 1 ≤ b.staircase.step) (bucket_after Tick) (λ b h. h) m.buckets p
 steps_left Arrival (refused r) m p = p
@@ -70,7 +70,7 @@ steps_left Tick (refused r) m p = p
 
 -- one event with its answer, and the observations after it
 bounds_step : (e : Event) (r : Reply ℕ) (m : MonitorModel) (later : List Observation) → r ≡ answer_to e m
-    → 1 ≤ length m.buckets → All (λ b. 1 ≤ b.staircase.step) m.buckets
+    → 1 ≤ length m.buckets → AllByRecursion (λ b. 1 ≤ b.staircase.step) m.buckets
     → ((y : ℕ) → ticks_served later < y → arrivals_taken later ≤ arrivals_within y (left_by e r m).buckets)
     → (x : ℕ) → count_ticked e r + ticks_served later < x → count_taken e r + arrivals_taken later ≤ arrivals_within x m.buckets
 bounds_step e r m later a k p rest zero h = absurd (omega arith)
@@ -81,7 +81,7 @@ bounds_step Arrival (refused r) m later a k p rest (suc x) h = omega (arith, res
 bounds_step Tick (refused r) m later a k p rest (suc x) h = omega (arith, rest (suc x) (omega arith))
 
 -- There must be a bucket: without one every arrival would be taken.
-pub bounds_arrivals : (m : MonitorModel) → 1 ≤ length m.buckets → All (λ b. 1 ≤ b.staircase.step) m.buckets
+pub bounds_arrivals : (m : MonitorModel) → 1 ≤ length m.buckets → AllByRecursion (λ b. 1 ≤ b.staircase.step) m.buckets
     → (x : ℕ) → BoundsArrivals m x (arrivals_within x m.buckets)
 bounds_arrivals m k p x [] h = omega arith
 bounds_arrivals m k p x (e ∷ es) h =

@@ -1,7 +1,7 @@
 -- Instants and windows: what one more arrival now means for the windows that end now, and for all windows.
 use Rattle.std.proofs.Common.{◌≡◌, ℕ, ◌+◌, ◌-◌, ◌<◌, ◌≤◌, cond, ◌&&◌, leb, List, [], ◌∷◌, ◌++◌, refl, inl, inr, arith}
 use Rattle.std.proofs.lemmas.Bool.{and_from, and_left, and_right, cases_lt, cond-false, cond-true, le-leb, lt-leb}
-use Rattle.std.specs.List.{AllByRecursion as All}
+use Rattle.std.specs.List.{AllByRecursion}
 use Rattle.tasks.specs.Staircase.{StaircaseModel}
 use Rattle.arrivals.proofs.OneCounter.{HasRoom}
 use Rattle.arrivals.proofs.Quotients.{quotient_rises}
@@ -13,7 +13,7 @@ since u [] = 0
 since u (x ∷ xs) = cond (leb u x) 1 0 + since u xs
 
 abbrev pub NoneLater : ℕ → List ℕ → Type 0
-NoneLater now xs = All (λ x. x ≤ now) xs
+NoneLater now xs = AllByRecursion (λ x. x ≤ now) xs
 
 pub since_now : (now u : ℕ) (xs : List ℕ) → u ≤ now → since u (xs ++ (now ∷ [])) ≡ since u xs + 1
 since_now now u [] h = omega (arith, cond-true {A = ℕ} (leb u now) 1 0 (le-leb u now h))

@@ -1,7 +1,7 @@
 -- Buckets that have followed a list of arrivals: what ties their counters to the instants of these arrivals, and that a tick
 -- and an arrival that is taken keep the tie.
 use Rattle.std.proofs.Common.{◌≡◌, ℕ, ◌+◌, ◌≤◌, ◌↔◌, List, [], ◌∷◌, ◌++◌, map, refl, ap, arith}
-use Rattle.std.specs.List.{AllByRecursion as All}
+use Rattle.std.specs.List.{AllByRecursion}
 use Rattle.tasks.specs.Staircase.{StaircaseModel}
 use Rattle.arrivals.proofs.OneCounter.{Counts, counts_arrival, counts_full, counts_tick, token_exactly}
 use Rattle.arrivals.proofs.All.{all_both, all_like, all_mapped, first_like}
@@ -36,7 +36,7 @@ pub record Tracked (now : ℕ) (xs : List ℕ) (b : BucketModel) : Type 0 where
 
 pub record AllTracked (now : ℕ) (xs : List ℕ) (bs : List BucketModel) : Type 0 where
   pub none_later : NoneLater now xs
-  pub each : All (Tracked now xs) bs
+  pub each : AllByRecursion (Tracked now xs) bs
 
 token_keeps : (now : ℕ) (xs : List ℕ) (b : BucketModel) → NoneLater now xs → Tracked now xs b → HasToken b ↔ Keeps (xs ++ (now ∷ [])) b.staircase
 token_keeps now xs b e t =
@@ -44,12 +44,12 @@ token_keeps now xs b e t =
     let law = token_exactly s now (λ u. since u xs) b.counter t.real t.counts in
     ((λ h. room_keeps s now xs t.real.1 e t.keeps (law.0 h)), (λ k. law.1 (keeps_room s now xs e k)))
 
-each_token_keeps : (now : ℕ) (xs : List ℕ) (bs : List BucketModel) → AllTracked now xs bs → All (λ b. HasToken b ↔ Keeps (xs ++ (now ∷ [])) b.staircase) bs
+each_token_keeps : (now : ℕ) (xs : List ℕ) (bs : List BucketModel) → AllTracked now xs bs → AllByRecursion (λ b. HasToken b ↔ Keeps (xs ++ (now ∷ [])) b.staircase) bs
 each_token_keeps now xs bs t =
     All-weaker (Tracked now xs) (λ b. HasToken b ↔ Keeps (xs ++ (now ∷ [])) b.staircase) (λ b. token_keeps now xs b t.none_later) bs t.each
 
 -- each bucket has a token exactly when the arrivals, with one more now, keep every staircase over every window
-pub tokens_windows : (now : ℕ) (xs : List ℕ) (bs : List BucketModel) → AllTracked now xs bs → All HasToken bs ↔ All (Keeps (xs ++ (now ∷ []))) (staircases_of bs)
+pub tokens_windows : (now : ℕ) (xs : List ℕ) (bs : List BucketModel) → AllTracked now xs bs → AllByRecursion HasToken bs ↔ AllByRecursion (Keeps (xs ++ (now ∷ []))) (staircases_of bs)
 tokens_windows now xs bs t = all_like HasToken (Keeps (xs ++ (now ∷ []))) (λ b. b.staircase) bs (each_token_keeps now xs bs t)
 
 -- the first bucket without a token is that of the first staircase that would not be kept
@@ -57,7 +57,7 @@ pub first_window : (now : ℕ) (xs : List ℕ) (bs : List BucketModel) → AllTr
     → (k : ℕ) → FirstWithout HasToken k bs → FirstWithout (Keeps (xs ++ (now ∷ []))) k (staircases_of bs)
 first_window now xs bs t k = first_like HasToken (Keeps (xs ++ (now ∷ []))) (λ b. b.staircase) k bs (each_token_keeps now xs bs t)
 
-pub tracked_fresh : (now : ℕ) (ss : List StaircaseModel) → All Real ss → AllTracked now [] (map full ss)
+pub tracked_fresh : (now : ℕ) (ss : List StaircaseModel) → AllByRecursion Real ss → AllTracked now [] (map full ss)
 tracked_fresh now ss p =
     record {
       none_later = tt;
@@ -77,7 +77,7 @@ tracked_tick now xs bs t =
           }) bs t.each;
     }
 
-pub tracked_arrival : (now : ℕ) (xs : List ℕ) (bs : List BucketModel) → AllTracked now xs bs → All HasToken bs
+pub tracked_arrival : (now : ℕ) (xs : List ℕ) (bs : List BucketModel) → AllTracked now xs bs → AllByRecursion HasToken bs
     → AllTracked now (xs ++ (now ∷ [])) (map (bucket_after Arrival) bs)
 tracked_arrival now xs bs t h =
     record {

@@ -1,6 +1,6 @@
 -- What a monitor promises of its arrivals, in the words of the subject: instants, windows and staircases, and no counters.
 use Rattle.std.specs.Prelude.{◌≡◌, ℕ, zero, suc, ◌+◌, ◌≤◌, cond, ◌&&◌, ◌↔◌, List, [], ◌∷◌, ◌++◌, nat_le}
-use Rattle.std.specs.List.{AllByRecursion as All}
+use Rattle.std.specs.List.{AllByRecursion}
 use Rattle.tasks.specs.Reply.{Refusal, Reply, refused, served}
 use Rattle.tasks.specs.Staircase.{StaircaseModel, allowed_in}
 use Rattle.tasks.specs.Task.{TaskModel}
@@ -51,7 +51,7 @@ Served (refused r) = ⊥
 -- the promise on one arrival that came after these observations and got this answer
 pub record AdmittedRightly (t : TaskModel) (before : List Observation) (answer : Reply ℕ) : Type 0 where
   -- it is taken exactly when the arrivals taken before, with it, keep every staircase over every window
-  pub admission : Served answer ↔ All (Keeps (taken_instants before ++ (clock_after before ∷ []))) t.staircases
+  pub admission : Served answer ↔ AllByRecursion (Keeps (taken_instants before ++ (clock_after before ∷ []))) t.staircases
   -- one that is taken is due a deadline from now
   pub due : (n : ℕ) → answer ≡ served n → n ≡ clock_after before + t.deadline
   -- a refusal names the first staircase that would not be kept, counted from 1

@@ -2,7 +2,7 @@
 use Rattle.std.proofs.Common.{◌≡◌, ℕ, ◌+◌, ◌-◌, ◌*◌, ◌≤◌, Bool, true, false, not, ◌&&◌, leb, List, map, sym, ap, ◌∙◌, subst, arith}
 use lib.Dec.{leb-zero}
 use Rattle.std.proofs.lemmas.Bool.{and_parts, cond-true, leb-true, not-true}
-use Rattle.std.specs.List.{list_all, AllByRecursion as All}
+use Rattle.std.specs.List.{list_all, AllByRecursion}
 use Rattle.fit.proofs.Conversions.{scaled_load}
 use Rattle.fit.proofs.Fresh.{tasks_fresh_formed}
 use Rattle.fit.specs.Exact.{fresh_allowance_of}
@@ -53,7 +53,7 @@ quick_with b allowance f =
 abbrev pub quick : ℕ → Figure → Bool
 quick b f = quick_with b (quick_allowance b f.rule (map fresh_lane f.tasks)) f
 
-module _ (b : ℕ) (ts : List TaskModel) (ok : All LaneFormed (map fresh_lane ts)) (light : shares (tasks_of (map fresh_lane ts)) ≤ 960) where
+module _ (b : ℕ) (ts : List TaskModel) (ok : AllByRecursion LaneFormed (map fresh_lane ts)) (light : shares (tasks_of (map fresh_lane ts)) ≤ 960) where
   -- a fresh state has spent nothing of the fixed allowance, which is the exact one
   fixed_when_fresh : fixed (fresh_state 0 ts) ≡ fresh_allowance_of ts
   fixed_when_fresh =
@@ -87,7 +87,7 @@ sound b f e =
     let tests = and_parts (good_tasks ts) (far_test b allowance ls) parts.0 in
     let good = and_parts (not (none ts)) (list_all formed_task ts) tests.0 in
     let far = and_parts (leb (shares (tasks_of ls)) 960) (leb (1024 * (allowance + standing ls)) (b * (1024 - shares (tasks_of ls)))) tests.1 in
-    let ok : All LaneFormed ls = tasks_fresh_formed ts (all_from_pass formed_task TaskFormed task_formed ts good.1) in
+    let ok : AllByRecursion LaneFormed ls = tasks_fresh_formed ts (all_from_pass formed_task TaskFormed task_formed ts good.1) in
     answer_found b ts ok (leb-true (shares (tasks_of ls)) 960 far.0) f.rule (not-true (none ts) good.0)
     (leb-true (1024 * (allowance + standing ls)) (b * (1024 - shares (tasks_of ls))) far.1)
     ∙ same_reply_tells (quick_answer b allowance ls) f.answer parts.1

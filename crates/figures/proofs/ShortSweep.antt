@@ -1,6 +1,6 @@
 -- An allowance by a short sweep: where the amount that is left at the length b is small, b is far enough for it, and no later length decides.
 use Rattle.std.proofs.Common.{◌≡◌, ℕ, ◌+◌, ◌-◌, ◌*◌, ◌<◌, ◌≤◌, ◌↔◌, List, [], zero-add, arith}
-use Rattle.std.specs.List.{AllByRecursion as All}
+use Rattle.std.specs.List.{AllByRecursion}
 use Rattle.fit.proofs.Allowances.{exact_found, line_found}
 use Rattle.fit.proofs.Conversions.{scaled_load}
 use Rattle.fit.proofs.Horizons.{Rated, far_weigh}
@@ -27,7 +27,7 @@ no_lane_before : (m a S b : ℕ) → 1024 * (m + a) ≤ b * (1024 - S) → 1024 
 no_lane_before m a S b far = rw (zero-add S) (omega arith)
 
 -- every task passes, at every length, exactly with the amounts that the sweep leaves
-sweep_tells : (ld : LaneModel → ℕ → ℕ) → Rated ld → (b now : ℕ) (ls : List LaneModel) → All LaneFormed ls → Far b (swept ld b now ls) ls
+sweep_tells : (ld : LaneModel → ℕ → ℕ) → Rated ld → (b now : ℕ) (ls : List LaneModel) → AllByRecursion LaneFormed ls → Far b (swept ld b now ls) ls
     → (w : ℕ) → 0 < w → (w ≤ swept ld b now ls) ↔ ((w ≤ 1024) × AllWeigh ld now w (λ y. 0) ls)
 sweep_tells ld rated b now ls ok far =
     sweep_finds ld now ls b
@@ -35,13 +35,13 @@ sweep_tells ld rated b now ls ok far =
     (no_lane_before (swept ld b now ls) (standing ls) (shares (tasks_of ls)) b far) below)
 
 -- so the sweep has found the exact allowance
-pub exact_by_short_sweep : (b now : ℕ) (ls : List LaneModel) → All LaneFormed ls → shares (tasks_of ls) ≤ 960 → Far b (swept scaled_load b now ls) ls
+pub exact_by_short_sweep : (b now : ℕ) (ls : List LaneModel) → AllByRecursion LaneFormed ls → shares (tasks_of ls) ≤ 960 → Far b (swept scaled_load b now ls) ls
     → swept scaled_load b now ls ≡ exact_allowance now ls
 exact_by_short_sweep b now ls ok light far =
     exact_found now (swept scaled_load b now ls) ls ok light (margin_top scaled_load now (λ y. 0) ls b) (sweep_tells scaled_load load_rate b now ls ok far)
 
 -- and by the lines the line allowance
-pub line_by_short_sweep : (b now : ℕ) (ls : List LaneModel) → All LaneFormed ls → shares (tasks_of ls) ≤ 960 → Far b (swept line_load b now ls) ls
+pub line_by_short_sweep : (b now : ℕ) (ls : List LaneModel) → AllByRecursion LaneFormed ls → shares (tasks_of ls) ≤ 960 → Far b (swept line_load b now ls) ls
     → swept line_load b now ls ≡ line_allowance now ls
 line_by_short_sweep b now ls ok light far =
     line_found now (swept line_load b now ls) ls ok light (margin_top line_load now (λ y. 0) ls b) (sweep_tells line_load line_load_rate b now ls ok far)

@@ -1,6 +1,6 @@
 -- Figures of opening a gate, as one list: tasks, a rule, and what opening on these tasks at the reading 0 answers under that rule.
 use Rattle.std.specs.Prelude.{◌≡◌, ℕ, List, [], ◌∷◌}
-use Rattle.std.specs.List.{AllByRecursion as All}
+use Rattle.std.specs.List.{AllByRecursion}
 use Rattle.fit.specs.Exact.{exact}
 use Rattle.fit.specs.Fixed.{fixed}
 use Rattle.fit.specs.Line.{line}
@@ -55,4 +55,4 @@ figures =
 
 -- each figure is what the definition of opening answers
 abbrev pub OpeningFiguresHold : Type 0
-OpeningFiguresHold = All (λ f. open_answer (meaning_of f.rule) 0 f.tasks ≡ f.answer) figures
+OpeningFiguresHold = AllByRecursion (λ f. open_answer (meaning_of f.rule) 0 f.tasks ≡ f.answer) figures

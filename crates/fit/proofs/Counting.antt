@@ -4,7 +4,7 @@ use native.Mathlib.Nat.{add-div_right}
 use Rattle.std.proofs.ByRecursion.{All-weaker}
 use Rattle.std.proofs.lemmas.List.{length-map}
 use Rattle.std.proofs.lemmas.Bool.{and_parts, cases_lt, ltb-true}
-use Rattle.std.specs.List.{AllByRecursion as All}
+use Rattle.std.specs.List.{AllByRecursion}
 use Rattle.tasks.specs.Staircase.{StaircaseModel}
 use Rattle.arrivals.proofs.Continuations.{arrival_spends, tick_allows}
 use Rattle.arrivals.proofs.Quotients.{quotient_rises}
@@ -18,16 +18,16 @@ use Rattle.lanes.specs.Lane.{LaneModel}
 use Rattle.fit.specs.WellFormed.{LaneFormed, StaircaseFormed}
 
 -- what holds of the image of each element
-all_before_map : {A B : Type 0} (P : B → Type 0) (f : A → B) (xs : List A) → All P (map f xs) → All (λ x. P (f x)) xs
+all_before_map : {A B : Type 0} (P : B → Type 0) (f : A → B) (xs : List A) → AllByRecursion P (map f xs) → AllByRecursion (λ x. P (f x)) xs
 all_before_map P f [] h = tt
 all_before_map P f (x ∷ xs) h = (h.0, all_before_map P f xs h.1)
 
 -- every staircase of a lane's buckets has a step
-pub steps_above : (l : LaneModel) → LaneFormed l → All (λ b. 1 ≤ b.staircase.step) l.buckets
+pub steps_above : (l : LaneModel) → LaneFormed l → AllByRecursion (λ b. 1 ≤ b.staircase.step) l.buckets
 steps_above l ok =
     all_before_map (λ s. 1 ≤ s.step) (λ b. b.staircase) l.buckets
     (All-weaker StaircaseFormed (λ s. 1 ≤ s.step) (λ s h. h.step_above) (map (λ b. b.staircase) l.buckets)
-    (subst (All StaircaseFormed) (sym ok.own) ok.task.staircases))
+    (subst (AllByRecursion StaircaseFormed) (sym ok.own) ok.task.staircases))
 
 -- a lane has a bucket
 some_bucket : (l : LaneModel) → LaneFormed l → 1 ≤ length l.buckets
@@ -45,13 +45,13 @@ bucket_rises zero y b h p = omega arith
 bucket_rises (suc x) zero b h p = absurd (omega arith)
 bucket_rises (suc x) (suc y) b h p = omega (arith, quotient_rises (x + age b.counter) (y + age b.counter) b.staircase.step p (omega arith))
 
-pub arrivals_rise : (x y : ℕ) (bs : List BucketModel) → x ≤ y → All (λ b. 1 ≤ b.staircase.step) bs → arrivals_within x bs ≤ arrivals_within y bs
+pub arrivals_rise : (x y : ℕ) (bs : List BucketModel) → x ≤ y → AllByRecursion (λ b. 1 ≤ b.staircase.step) bs → arrivals_within x bs ≤ arrivals_within y bs
 arrivals_rise x y [] h p = omega arith
 arrivals_rise x y (b ∷ []) h p = bucket_rises x y b h p.0
 arrivals_rise x y (b ∷ c ∷ bs) h p = omega (arith, bucket_rises x y b h p.0, arrivals_rise x y (c ∷ bs) h p.1)
 
 -- one tick later, the arrivals that are due within Δ of the new instant were due within Δ + 1 of the old one
-pub tick_allows_by_deadline : (deadline Δ : ℕ) (bs : List BucketModel) → All (λ b. 1 ≤ b.staircase.step) bs
+pub tick_allows_by_deadline : (deadline Δ : ℕ) (bs : List BucketModel) → AllByRecursion (λ b. 1 ≤ b.staircase.step) bs
     → arrivals_within (suc Δ - deadline) (map (bucket_after Tick) bs) ≤ arrivals_within (suc (suc Δ) - deadline) bs
 tick_allows_by_deadline deadline Δ bs p =
     elim (cases_lt (suc Δ) deadline) [
@@ -64,7 +64,7 @@ tick_allows_by_deadline deadline Δ bs p =
     ]
 
 -- an admitted arrival is one of those that were possible from now on
-pub arrival_takes_one : (n : ℕ) (l : LaneModel) → LaneFormed l → All (λ b. has_token b ≡ true) l.buckets
+pub arrival_takes_one : (n : ℕ) (l : LaneModel) → LaneFormed l → AllByRecursion (λ b. has_token b ≡ true) l.buckets
     → arrivals_within (suc n) (map (bucket_after Arrival) l.buckets) + 1 ≡ arrivals_within (suc n) l.buckets
 arrival_takes_one n l ok h =
     arrival_spends n l.buckets (some_bucket l ok)
@@ -84,7 +84,7 @@ counter_below_full s (Short t g) (suc n) p h =
       add-div_right (n + 0) p,
     )
 
-below_full : (x : ℕ) (bs : List BucketModel) → All (λ b. 1 ≤ b.staircase.step) bs → All (λ b. sound b.staircase b.counter ≡ true) bs
+below_full : (x : ℕ) (bs : List BucketModel) → AllByRecursion (λ b. 1 ≤ b.staircase.step) bs → AllByRecursion (λ b. sound b.staircase b.counter ≡ true) bs
     → arrivals_within x bs ≤ arrivals_within x (map full (map (λ b. b.staircase) bs))
 below_full x [] p h = omega arith
 below_full x (b ∷ []) p h = counter_below_full b.staircase b.counter x p.0 h.0

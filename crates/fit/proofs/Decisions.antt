@@ -8,7 +8,7 @@ use Rattle.fit.specs.Line.{all_pass_to, passes_to}
 use Rattle.lanes.specs.Line.{line_load}
 use Rattle.fit.specs.Search.{all_below, all_fit_to, fits_to, some_below}
 
--- `Fits`, `All-fit`, `Passes` and `All-pass` at the lengths below b alone
+-- `Fits`, `AllFit`, `Passes` and `AllPass` at the lengths below b alone
 abbrev pub FitsBelow : ℕ → ℕ → (ℕ → ℕ) → (ℕ → ℕ) → Type 0
 FitsBelow b w d I = (Δ : ℕ) → Δ < b → 0 < d Δ → (y : ℕ) × (y ≤ Δ) × (w + d Δ + I y ≤ y)
 

@@ -1,7 +1,7 @@
 -- The first task that does not fit: there is one right answer, the search for it goes far enough, and with too large an amount no task fits.
 use Rattle.std.proofs.Common.{◌≡◌, ℕ, zero, suc, ◌+◌, ◌-◌, ◌*◌, ◌/◌, ◌<◌, ◌≤◌, min, List, [], ◌∷◌, map, length, Some, None, Option, sym, refl, ap, ◌∙◌, subst, inl, inr, mul-le-mul_right, mul-le-mul, mul-le-mul_left, le-div_iff_mul-le, arith}
 use Rattle.std.proofs.lemmas.Bool.{cases_lt}
-use Rattle.std.specs.List.{AllByRecursion as All}
+use Rattle.std.specs.List.{AllByRecursion}
 use Rattle.arrivals.specs.Bucket.{BucketModel, arrivals_within, bucket_allows}
 use Rattle.arrivals.specs.Counter.{age}
 use Rattle.lanes.specs.Demand.{demand, load}
@@ -42,7 +42,7 @@ far_for_less : (w a S c T b : ℕ) → c ≤ a → T ≤ S → 1024 * (w + a) �
 far_for_less w a S c T b ha hS far = omega (arith, mul-le-mul_left {m = 1024 - S} {n = 1024 - T} b (omega arith))
 
 -- of the tasks of `before` and of these lanes together stands at most a, and their shares sum to at most S
-pub far_enough : (b now w a S : ℕ) (I : ℕ → ℕ) (before ls : List LaneModel) → All LaneFormed ls
+pub far_enough : (b now w a S : ℕ) (I : ℕ → ℕ) (before ls : List LaneModel) → AllByRecursion LaneFormed ls
     → ((y : ℕ) → 1024 * I y ≤ 1024 * standing before + shares (tasks_of before) * y)
     → standing before + standing ls ≤ a → shares (tasks_of before) + shares (tasks_of ls) ≤ S
     → 1024 * (w + a) ≤ suc b * (1024 - S) → FarEnough b now w I ls
@@ -62,7 +62,7 @@ past_horizon : (w a p S : ℕ) → 1024 * (w + a) ≤ 16 * (p + w) * (1024 - S) 
 past_horizon w a p S far = omega (arith, mul-le-mul_right {m = 16 * (p + w)} {n = suc (16 * (1024 + p + w))} (1024 - S) (omega arith))
 
 -- the search finds the first task that does not fit at some length, however long
-pub search_finds : (now w : ℕ) (ls : List LaneModel) → All LaneFormed ls → shares (tasks_of ls) ≤ 960 → FirstMisfit now w ls (first_misfit now w ls)
+pub search_finds : (now w : ℕ) (ls : List LaneModel) → AllByRecursion LaneFormed ls → shares (tasks_of ls) ≤ 960 → FirstMisfit now w ls (first_misfit now w ls)
 unfolding first_misfit
 search_finds now w ls ok light =
     misfit_found (16 * (peak_work (tasks_of ls) + w)) now w ls
@@ -77,7 +77,7 @@ bucket_allows_one b ok =
     let one : 1 ≤ (4096 + age b.counter) / b.staircase.step = (le-div_iff_mul-le ok.step_above).1 (omega (arith, ok.step_below)) in
     omega arith
 
-one_arrival : (bs : List BucketModel) → All StaircaseFormed (map (λ b. b.staircase) bs) → 1 ≤ length (map (λ b. b.staircase) bs) → 1 ≤ arrivals_within 4097 bs
+one_arrival : (bs : List BucketModel) → AllByRecursion StaircaseFormed (map (λ b. b.staircase) bs) → 1 ≤ length (map (λ b. b.staircase) bs) → 1 ≤ arrivals_within 4097 bs
 one_arrival [] ok some = absurd (omega arith)
 one_arrival (b ∷ []) ok some = bucket_allows_one b ok.0
 one_arrival (b ∷ c ∷ bs) ok some = omega (arith, bucket_allows_one b ok.0, one_arrival (c ∷ bs) ok.1 (omega arith))
@@ -87,7 +87,7 @@ some_demand : (now : ℕ) (l : LaneModel) → LaneFormed l → 0 < demand now l 
 some_demand now l ok =
     let instants : suc (l.task.deadline + 4096) - l.task.deadline ≡ 4097 = omega arith in
     let one : 1 ≤ arrivals_within 4097 l.buckets =
-    one_arrival l.buckets (subst (All StaircaseFormed) (sym ok.own) ok.task.staircases) (omega (arith, ap length ok.own, ok.task.some_staircase)) in
+    one_arrival l.buckets (subst (AllByRecursion StaircaseFormed) (sym ok.own) ok.task.staircases) (omega (arith, ap length ok.own, ok.task.some_staircase)) in
     omega (arith, mul-le-mul ok.task.limit_above one, ap (λ x. l.task.limit * arrivals_within x l.buckets) instants)
 
 no_task_fits : (now w : ℕ) (I : ℕ → ℕ) (l : LaneModel) → LaneFormed l → 5120 ≤ w → Fits w (demand now l) I → ⊥
@@ -97,7 +97,7 @@ no_task_fits now w I l ok large fits = none (fits (l.task.deadline + 4096) (some
     none (y, le, enough) = omega (arith, some_demand now l ok, ok.task.deadline_below)
 
 -- two amounts with which no task fits have the same first misfit
-same_misfit : (now v w : ℕ) (ls : List LaneModel) (o : Option ℕ) → All LaneFormed ls → 5120 ≤ v → 5120 ≤ w → FirstMisfit now v ls o → FirstMisfit now w ls o
+same_misfit : (now v w : ℕ) (ls : List LaneModel) (o : Option ℕ) → AllByRecursion LaneFormed ls → 5120 ≤ v → 5120 ≤ w → FirstMisfit now v ls o → FirstMisfit now w ls o
 same_misfit now v w [] None ok hv hw found = tt
 same_misfit now v w [] (Some n) ok hv hw (k, e, misfit) = absurd misfit
 same_misfit now v w (l ∷ ls) None ok hv hw found = absurd (no_task_fits now v (λ y. 0) l ok.0 hv found.0)
@@ -105,7 +105,7 @@ same_misfit now v w (l ∷ ls) (Some n) ok hv hw (zero, e, misfit) = (0, e, no_t
 same_misfit now v w (l ∷ ls) (Some n) ok hv hw (suc k, e, misfit) = absurd (no_task_fits now v (λ y. 0) l ok.0 hv misfit.0)
 
 -- so a search may take 5120 for every larger amount
-pub enough_to_search : (now w : ℕ) (ls : List LaneModel) (o : Option ℕ) → All LaneFormed ls → FirstMisfit now (min w 5120) ls o → FirstMisfit now w ls o
+pub enough_to_search : (now w : ℕ) (ls : List LaneModel) (o : Option ℕ) → AllByRecursion LaneFormed ls → FirstMisfit now (min w 5120) ls o → FirstMisfit now w ls o
 enough_to_search now w ls o ok found =
     elim (cases_lt w 5120) [
       | inl small ↦ let same : min w 5120 ≡ w = omega arith in subst (λ (v : ℕ). FirstMisfit now v ls o) same found

@@ -1,7 +1,7 @@
 -- What keeps fit: the two steps, one tick later and at the same instant, and what follows from them for a list of lanes.
 use Rattle.std.proofs.Common.{◌≡◌, ℕ, zero, suc, ◌+◌, ◌-◌, ◌<◌, ◌≤◌, true, List, [], ◌∷◌, refl, mul-le-mul_left, arith}
 use Rattle.std.proofs.lemmas.Bool.{and_parts}
-use Rattle.std.specs.List.{AllByRecursion as All}
+use Rattle.std.specs.List.{AllByRecursion}
 use Rattle.fit.proofs.Counting.{at_most_fresh}
 use Rattle.lanes.specs.Demand.{demand, load}
 use Rattle.fit.specs.Fit.{AllFit, Fits}
@@ -61,7 +61,7 @@ pub idle_load : (l : LaneModel) (y : ℕ) → LaneFormed l → none l.pending �
 idle_load l y ok h = omega (arith, none_remains l.pending h, mul-le-mul_left l.task.limit (at_most_fresh y l ok))
 
 -- lanes with nothing pending fit as when fresh, with any amount up to that of then
-pub idle_all_fit : (opened now w v : ℕ) (J K : ℕ → ℕ) (ls : List LaneModel) → v ≤ w → All LaneFormed ls → none_pending ls ≡ true → ((y : ℕ) → J y ≤ K y)
+pub idle_all_fit : (opened now w v : ℕ) (J K : ℕ → ℕ) (ls : List LaneModel) → v ≤ w → AllByRecursion LaneFormed ls → none_pending ls ≡ true → ((y : ℕ) → J y ≤ K y)
     → AllFit opened w K (fresh_lanes ls) → AllFit now v J ls
 idle_all_fit opened now w v J K [] lower ok idle fewer fit = tt
 idle_all_fit opened now w v J K (l ∷ ls) lower ok idle fewer fit =

@@ -2,7 +2,7 @@
 use Rattle.std.proofs.Common.{◌≡◌, ℕ, ◌≤◌, true, ◌&&◌, eqb, List, [], ◌∷◌, map, length, sym, refl, ap, ◌∙◌, arith}
 use Rattle.std.proofs.lemmas.List.{length-map, length-take}
 use Rattle.std.proofs.lemmas.Bool.{and_parts, eqb-true}
-use Rattle.std.specs.List.{AllByRecursion as All}
+use Rattle.std.specs.List.{AllByRecursion}
 use Rattle.arrivals.specs.Bucket.{BucketModel, bucket_of, counters_of, matched}
 use Rattle.arrivals.specs.Counter.{sound}
 use Rattle.arrivals.specs.declared.bucket.Bucket.{Bucket}
@@ -20,7 +20,7 @@ use Rattle.fit.specs.WellFormed.{LaneFormed, StaircaseFormed, TaskFormed}
 pub few_items : {T : Type 0} {n : ℕ} (b : Bounded T n) → length (items b) ≤ n
 few_items b = omega (arith, length-take b.len b.slots, b.within)
 
-staircases_formed : (ss : List Staircase) → All StaircaseFormed (map staircase_of ss)
+staircases_formed : (ss : List Staircase) → AllByRecursion StaircaseFormed (map staircase_of ss)
 staircases_formed [] = tt
 staircases_formed (s ∷ ss) = (
   record { burst_above = s.burst_above; burst_below = s.burst_below; step_above = s.step_above; step_below = s.step_below },
@@ -56,7 +56,7 @@ matched_own (s ∷ ss) (b ∷ bs) e =
     made : ℕ → ℕ → StaircaseModel
     made n d = record { burst = n; step = d }
 
-counters_sound : (bs : List Bucket) → All (λ b. sound b.staircase b.counter ≡ true) (map bucket_of bs)
+counters_sound : (bs : List Bucket) → AllByRecursion (λ b. sound b.staircase b.counter ≡ true) (map bucket_of bs)
 counters_sound [] = tt
 counters_sound (b ∷ bs) = (b.within, counters_sound bs)
 
@@ -70,10 +70,10 @@ lane_formed l =
       worked = l.worked;
     }
 
-pub lanes_formed : (ls : List Lane) → All LaneFormed (map lane_of ls)
+pub lanes_formed : (ls : List Lane) → AllByRecursion LaneFormed (map lane_of ls)
 lanes_formed [] = tt
 lanes_formed (l ∷ ls) = (lane_formed l, lanes_formed ls)
 
-pub tasks_formed : (ts : List Task) → All TaskFormed (map task_of ts)
+pub tasks_formed : (ts : List Task) → AllByRecursion TaskFormed (map task_of ts)
 tasks_formed [] = tt
 tasks_formed (t ∷ ts) = (task_formed t, tasks_formed ts)

@@ -1,7 +1,7 @@
 -- Long lengths do not decide, whatever rule weighs the tasks: what their shares leave free of the processor outgrows the amount and what stands.
 use Rattle.std.proofs.Common.{◌≡◌, ℕ, ◌+◌, ◌-◌, ◌*◌, ◌<◌, ◌≤◌, true, ◌&&◌, leb, List, [], ◌∷◌, length, ap, inl, inr, mul-le-mul_right, mul-le-mul_left, arith}
 use Rattle.std.proofs.lemmas.Bool.{and_parts, cases_lt, leb-true}
-use Rattle.std.specs.List.{AllByRecursion as All}
+use Rattle.std.specs.List.{AllByRecursion}
 use Rattle.tasks.specs.Task.{share}
 use Rattle.fit.proofs.Rates.{demand_at_most_load, load_rate, long_staircase_formed}
 use Rattle.fit.specs.Weighing.{AllWeigh, AllWeighBelow}
@@ -48,7 +48,7 @@ front_is_far : (m a c S T b : ℕ) → 1024 * (m + (a + c)) ≤ b * (1024 - (S +
 front_is_far m a c S T b far = omega (arith, mul-le-mul_left {m = 1024 - (S + T)} {n = 1024 - S} b (omega arith))
 
 -- to weigh the tasks at the lengths below b is to weigh them at every length
-pub far_weigh : (ld : LaneModel → ℕ → ℕ) → Rated ld → (b now m w : ℕ) (A : ℕ → ℕ) (before ls : List LaneModel) → w ≤ m → All LaneFormed ls
+pub far_weigh : (ld : LaneModel → ℕ → ℕ) → Rated ld → (b now m w : ℕ) (A : ℕ → ℕ) (before ls : List LaneModel) → w ≤ m → AllByRecursion LaneFormed ls
     → ((y : ℕ) → A y ≤ 1024 * standing before + shares (tasks_of before) * y)
     → 1024 * (m + (standing before + standing ls)) ≤ b * (1024 - (shares (tasks_of before) + shares (tasks_of ls)))
     → AllWeighBelow ld b now w A ls → AllWeigh ld now w A ls
@@ -78,7 +78,7 @@ backlog_bound limit (j ∷ js) h =
     omega (arith, backlog_bound limit js parts.1)
 
 -- what stands is at most eight pending jobs of each task and a burst
-pub standing_at_most_peak : (ls : List LaneModel) → All LaneFormed ls → standing ls ≤ peak_of_tasks (tasks_of ls)
+pub standing_at_most_peak : (ls : List LaneModel) → AllByRecursion LaneFormed ls → standing ls ≤ peak_of_tasks (tasks_of ls)
 standing_at_most_peak [] ok = omega arith
 standing_at_most_peak (l ∷ ls) ok =
     omega (
@@ -93,12 +93,12 @@ sixteenth_free : (a p m S : ℕ) → a ≤ p → S ≤ 960 → 1024 * (m + a) �
 sixteenth_free a p m S ha hS = omega (arith, mul-le-mul_left {m = 64} {n = 1024 - S} (16 * (p + m)) (omega arith))
 
 -- with at least a sixteenth free, sixteen times the peak and the amount is far enough
-pub horizon_is_far : (m : ℕ) (ls : List LaneModel) → shares (tasks_of ls) ≤ 960 → All LaneFormed ls
+pub horizon_is_far : (m : ℕ) (ls : List LaneModel) → shares (tasks_of ls) ≤ 960 → AllByRecursion LaneFormed ls
     → 1024 * (m + standing ls) ≤ 16 * (peak_of_tasks (tasks_of ls) + m) * (1024 - shares (tasks_of ls))
 horizon_is_far m ls light ok = sixteenth_free (standing ls) (peak_of_tasks (tasks_of ls)) m (shares (tasks_of ls)) (standing_at_most_peak ls ok) light
 
 -- what the tasks before may ask, by their lines
-ahead_rate : (ls : List LaneModel) (y : ℕ) → All LaneFormed ls → 1024 * ahead ls y ≤ 1024 * standing ls + shares (tasks_of ls) * y
+ahead_rate : (ls : List LaneModel) (y : ℕ) → AllByRecursion LaneFormed ls → 1024 * ahead ls y ≤ 1024 * standing ls + shares (tasks_of ls) * y
 ahead_rate [] y ok = omega arith
 ahead_rate (l ∷ ls) y ok = omega (arith, load_rate l ok.0 y, ahead_rate ls y ok.1)
 

@@ -1,7 +1,7 @@
 -- How fit lasts for one task behind given ones: over an arrival, over a tick, and while nothing is pending.
 use Rattle.std.proofs.Common.{◌≡◌, ℕ, zero, suc, ◌+◌, ◌<◌, ◌≤◌, Bool, true, ◌&&◌, leb, List, [], ◌∷◌, map, inl, inr, add-zero, arith}
 use Rattle.std.proofs.lemmas.Bool.{and_parts, cases_lt, cond-true, le-leb}
-use Rattle.std.specs.List.{AllByRecursion as All}
+use Rattle.std.specs.List.{AllByRecursion}
 use Rattle.fit.proofs.Demands.{arrived_demand, arrived_load, first_left, runs_demand, runs_load, waits_demand, waits_load}
 use Rattle.fit.proofs.Fitting.{fits_less, fits_step, idle_demand, idle_load}
 use Rattle.lanes.specs.Demand.{demand}
@@ -15,24 +15,24 @@ use Rattle.fit.specs.WellFormed.{LaneFormed}
 use Rattle.lanes.specs.declared.job.Job.{Job}
 
 -- an admitted arrival leaves what the tasks may ask together as it was, from the length 1 on
-ahead_arrived : (now k : ℕ) (ls : List LaneModel) (y : ℕ) → All LaneFormed ls → At Admits k ls → ahead (at_lane (arrived now) k ls) (suc y) ≡ ahead ls (suc y)
+ahead_arrived : (now k : ℕ) (ls : List LaneModel) (y : ℕ) → AllByRecursion LaneFormed ls → At Admits k ls → ahead (at_lane (arrived now) k ls) (suc y) ≡ ahead ls (suc y)
 ahead_arrived now k [] y ok admits = absurd admits
 ahead_arrived now zero (l ∷ ls) y ok admits = omega (arith, arrived_load now l y ok.0 admits)
 ahead_arrived now (suc k) (l ∷ ls) y ok admits = omega (arith, ahead_arrived now k ls y ok.1 admits)
 
 -- a tick at which none of these tasks runs
-ahead_waits : (ls : List LaneModel) (y : ℕ) → All LaneFormed ls → ahead (map waits ls) y ≤ ahead ls (suc y)
+ahead_waits : (ls : List LaneModel) (y : ℕ) → AllByRecursion LaneFormed ls → ahead (map waits ls) y ≤ ahead ls (suc y)
 ahead_waits [] y ok = omega arith
 ahead_waits (l ∷ ls) y ok = omega (arith, waits_load l y ok.0, ahead_waits ls y ok.1)
 
 -- and one at which one of them does
-ahead_ticked : (said : Bool) (k : ℕ) (ls : List LaneModel) (y : ℕ) → All LaneFormed ls → At HasPending k ls → ahead (ticked_at said k ls) y + 1 ≤ ahead ls (suc y)
+ahead_ticked : (said : Bool) (k : ℕ) (ls : List LaneModel) (y : ℕ) → AllByRecursion LaneFormed ls → At HasPending k ls → ahead (ticked_at said k ls) y + 1 ≤ ahead ls (suc y)
 ahead_ticked said k [] y ok some = absurd some
 ahead_ticked said zero (l ∷ ls) y ok some = omega (arith, runs_load said l y ok.0 some, ahead_waits ls y ok.1)
 ahead_ticked said (suc k) (l ∷ ls) y ok some = omega (arith, waits_load l y ok.0, ahead_ticked said k ls y ok.1 some)
 
 -- tasks with nothing pending may ask no more than when fresh
-ahead_idle : (ls : List LaneModel) (y : ℕ) → All LaneFormed ls → none_pending ls ≡ true → ahead ls y ≤ ahead (fresh_lanes ls) y
+ahead_idle : (ls : List LaneModel) (y : ℕ) → AllByRecursion LaneFormed ls → none_pending ls ≡ true → ahead ls y ≤ ahead (fresh_lanes ls) y
 ahead_idle [] y ok idle = omega arith
 ahead_idle (l ∷ ls) y ok idle =
     let parts = and_parts (none l.pending) (none_pending ls) idle in
@@ -73,7 +73,7 @@ idle_fits_as_fresh opened now w v before l ok idle lower =
     (λ Δ. idle_demand opened now l Δ ok.0 parts.0) (λ y. ahead_idle before (suc y) ok.1 parts.1)
 
 -- where nothing is due by now, each job is due later
-due_later : (now limit : ℕ) (js : List Job) → within_limit limit js ≡ true → due_by now js ≡ 0 → All (λ j. now < j.due) js
+due_later : (now limit : ℕ) (js : List Job) → within_limit limit js ≡ true → due_by now js ≡ 0 → AllByRecursion (λ j. now < j.due) js
 due_later now limit [] worked h = tt
 due_later now limit (j ∷ js) worked h = (
   elim (cases_lt now j.due) [

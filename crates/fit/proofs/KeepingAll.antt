@@ -1,7 +1,7 @@
 -- How fit lasts for every task of a list: behind tasks that may ask I before the step, J after it, and K when all were fresh.
 use Rattle.std.proofs.Common.{◌≡◌, ℕ, zero, suc, ◌+◌, ◌≤◌, Bool, true, List, [], ◌∷◌, map, take, arith}
 use Rattle.std.proofs.lemmas.Bool.{and_parts}
-use Rattle.std.specs.List.{AllByRecursion as All}
+use Rattle.std.specs.List.{AllByRecursion}
 use Rattle.fit.proofs.Demands.{arrived_demand, arrived_load, runs_demand, runs_load, waits_demand, waits_load}
 use Rattle.fit.proofs.Fitting.{all_fit_less, fits_less, fits_step, idle_demand, idle_load}
 use Rattle.lanes.specs.Demand.{demand, load}
@@ -13,7 +13,7 @@ use Rattle.fit.specs.Steps.{arrived, at_lane, runs, ticked_at, waits}
 use Rattle.fit.specs.WellFormed.{DuesInOrder, LaneFormed}
 
 -- an admitted arrival keeps the fit of every task
-pub arrived_all_fit : (now w k : ℕ) (I : ℕ → ℕ) (ls : List LaneModel) → All LaneFormed ls → At Admits k ls
+pub arrived_all_fit : (now w k : ℕ) (I : ℕ → ℕ) (ls : List LaneModel) → AllByRecursion LaneFormed ls → At Admits k ls
     → AllFit now w I ls → AllFit now w I (at_lane (arrived now) k ls)
 arrived_all_fit now w k I [] ok admits fit = tt
 arrived_all_fit now w zero I (l ∷ ls) ok admits fit = (
@@ -23,7 +23,7 @@ arrived_all_fit now w zero I (l ∷ ls) ok admits fit = (
 arrived_all_fit now w (suc k) I (l ∷ ls) ok admits fit = (fit.0, arrived_all_fit now w k (λ y. I y + load l y) ls ok.1 admits fit.1)
 
 -- a tick at which none of these tasks runs, but somebody before them
-pub waits_all_fit : (now w v : ℕ) (I J : ℕ → ℕ) (ls : List LaneModel) → All LaneFormed ls → ((y : ℕ) → v + J y + 1 ≤ w + I (suc y))
+pub waits_all_fit : (now w v : ℕ) (I J : ℕ → ℕ) (ls : List LaneModel) → AllByRecursion LaneFormed ls → ((y : ℕ) → v + J y + 1 ≤ w + I (suc y))
     → AllFit now w I ls → AllFit (suc now) v J (map waits ls)
 waits_all_fit now w v I J [] ok less fit = tt
 waits_all_fit now w v I J (l ∷ ls) ok less fit = (
@@ -34,7 +34,7 @@ waits_all_fit now w v I J (l ∷ ls) ok less fit = (
 
 -- A tick at which the task with k tasks before it runs, which have nothing pending: those fit as when fresh, with any amount up to that of then.
 pub ticked_all_fit : (opened now w w0 k : ℕ) (said : Bool) (I J K : ℕ → ℕ) (ls : List LaneModel) → w ≤ w0
-    → All LaneFormed ls → All (DuesInOrder now) ls → All LaneFormed (ticked_at said k ls)
+    → AllByRecursion LaneFormed ls → AllByRecursion (DuesInOrder now) ls → AllByRecursion LaneFormed (ticked_at said k ls)
     → none_pending (take k ls) ≡ true → At HasPending k ls
     → ((y : ℕ) → J y ≤ I (suc y)) → ((y : ℕ) → J y ≤ K y)
     → AllFit opened w0 K (fresh_lanes ls) → AllFit now w I ls → AllFit (suc now) w J (ticked_at said k ls)

@@ -4,7 +4,7 @@ use native.Mathlib.Nat.{add-div_right, lt-div-mul-add, mul-div-le}
 use Rattle.std.proofs.ByRecursion.{all-has, All-weaker}
 use Rattle.std.proofs.lemmas.List.{length-map}
 use Rattle.std.proofs.lemmas.Bool.{and_parts, cond_both, ltb-true}
-use Rattle.std.specs.List.{AllByRecursion as All}
+use Rattle.std.specs.List.{AllByRecursion}
 use Rattle.arrivals.proofs.Quotients.{quotient_rises}
 use Rattle.arrivals.specs.Bucket.{BucketModel, arrivals_within, bucket_allows, long_bucket}
 use Rattle.arrivals.specs.Counter.{age, sound, tokens}
@@ -24,7 +24,7 @@ use Rattle.fit.specs.WellFormed.{LaneFormed, StaircaseFormed, TaskFormed}
 use Rattle.lanes.specs.declared.job.Job.{Job}
 
 -- the least is at most the number of each element
-least_at_most_each : {A : Type 0} (f : A → ℕ) (xs : List A) → All (λ x. least f xs ≤ f x) xs
+least_at_most_each : {A : Type 0} (f : A → ℕ) (xs : List A) → AllByRecursion (λ x. least f xs ≤ f x) xs
 least_at_most_each f [] = tt
 least_at_most_each f (x ∷ []) = (omega arith, tt)
 least_at_most_each f (x ∷ y ∷ ys) = (
@@ -32,14 +32,14 @@ least_at_most_each f (x ∷ y ∷ ys) = (
   All-weaker (λ z. least f (y ∷ ys) ≤ f z) (λ z. min (f x) (least f (y ∷ ys)) ≤ f z) (λ z h. omega arith) (y ∷ ys) (least_at_most_each f (y ∷ ys)),
 )
 
-longest_bucket_keeps : (P : BucketModel → Type 0) (b : BucketModel) (bs : List BucketModel) → P b → All P bs → P (longest_by (λ c. c.staircase) b bs)
+longest_bucket_keeps : (P : BucketModel → Type 0) (b : BucketModel) (bs : List BucketModel) → P b → AllByRecursion P bs → P (longest_by (λ c. c.staircase) b bs)
 longest_bucket_keeps P b [] p ps = p
 longest_bucket_keeps P b (c ∷ cs) p ps =
     longest_bucket_keeps P (cond (longer c.staircase b.staircase) c b) cs
     (cond_both (longer c.staircase b.staircase) c b P (λ _. ps.0) (λ _. p)) ps.1
 
 -- the long bucket is one of the buckets: what holds of each holds of it
-pub long_bucket_keeps : (P : BucketModel → Type 0) (bs : List BucketModel) → 1 ≤ length bs → All P bs → P (long_bucket bs)
+pub long_bucket_keeps : (P : BucketModel → Type 0) (bs : List BucketModel) → 1 ≤ length bs → AllByRecursion P bs → P (long_bucket bs)
 long_bucket_keeps P [] n ps = absurd (omega arith)
 long_bucket_keeps P (b ∷ bs) n ps = longest_bucket_keeps P b bs ps.0 ps.1
 

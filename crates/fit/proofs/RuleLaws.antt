@@ -1,7 +1,7 @@
 -- The exact, the line and the fixed rule keep the laws: within the exact allowance, and when idle at least as when freshly opened.
 use Rattle.std.proofs.Common.{◌≡◌, ℕ, ◌+◌, ◌-◌, ◌*◌, ◌≤◌, Bool, true, false, cond, leb, List, [], ◌∷◌, map, sym, refl, ap, ◌∙◌, subst, inl, inr, arith}
 use Rattle.std.proofs.lemmas.Bool.{and_parts, cond_both, leb-true}
-use Rattle.std.specs.List.{AllByRecursion as All}
+use Rattle.std.specs.List.{AllByRecursion}
 use Rattle.arrivals.specs.Bucket.{full, long_bucket}
 use Rattle.arrivals.specs.Counter.{sound}
 use Rattle.tasks.specs.Staircase.{StaircaseModel, long_staircase, longer, longest, longest_by}
@@ -53,7 +53,7 @@ exact_laws = record { within = λ s ok good. omega arith; renewed = λ s reading
 -- the line rule
 
 -- tasks that pass also fit: a line lies above the load
-pass_fits : (now w : ℕ) (I A : ℕ → ℕ) (ls : List LaneModel) → All LaneFormed ls → ((y : ℕ) → 1024 * I y ≤ A y) → AllPass now w A ls → AllFit now w I ls
+pass_fits : (now w : ℕ) (I A : ℕ → ℕ) (ls : List LaneModel) → AllByRecursion LaneFormed ls → ((y : ℕ) → 1024 * I y ≤ A y) → AllPass now w A ls → AllFit now w I ls
 pass_fits now w I A [] ok above pass = tt
 pass_fits now w I A (l ∷ ls) ok above pass = (
   (λ Δ some. (Δ, omega arith, omega (arith, pass.0 Δ some, above Δ))),
@@ -91,7 +91,7 @@ idle_line l y ok rest =
     omega (arith, line_load_rate l ok y, fresh_line l.task y)
 
 -- lanes with nothing pending pass as when fresh
-idle_all_pass : (opened now w : ℕ) (A B : ℕ → ℕ) (ls : List LaneModel) → All LaneFormed ls → none_pending ls ≡ true → ((y : ℕ) → A y ≤ B y)
+idle_all_pass : (opened now w : ℕ) (A B : ℕ → ℕ) (ls : List LaneModel) → AllByRecursion LaneFormed ls → none_pending ls ≡ true → ((y : ℕ) → A y ≤ B y)
     → AllPass opened w B (fresh_lanes ls) → AllPass now w A ls
 idle_all_pass opened now w A B [] ok rest fewer pass = tt
 idle_all_pass opened now w A B (l ∷ ls) ok rest fewer pass =

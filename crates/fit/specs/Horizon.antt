@@ -1,6 +1,6 @@
 -- How far a search has to go: in the long run the tasks leave a part of the processor free, so long lengths do not decide.
 use Rattle.std.specs.Prelude.{ℕ, ◌+◌, ◌-◌, ◌*◌, ◌≤◌, List, ◌∷◌}
-use Rattle.std.specs.List.{AllByRecursion as All}
+use Rattle.std.specs.List.{AllByRecursion}
 use Rattle.tasks.specs.Task.{TaskModel}
 use Rattle.lanes.specs.Demand.{demand}
 use Rattle.fit.specs.Fit.{ahead}
@@ -17,6 +17,6 @@ horizon ts = 16 * peak_work ts
 -- what is free of the processor until Δ is at least the amount and what stands.
 abbrev pub LongLengthsSuffice : Type 0
 LongLengthsSuffice =
-    (now m Δ : ℕ) (before : List LaneModel) (l : LaneModel) → All LaneFormed (l ∷ before)
+    (now m Δ : ℕ) (before : List LaneModel) (l : LaneModel) → AllByRecursion LaneFormed (l ∷ before)
     → 1024 * (m + standing (l ∷ before)) ≤ Δ * (1024 - shares (tasks_of (l ∷ before)))
     → (w longer : ℕ) → w ≤ m → Δ ≤ longer → w + demand now l longer + ahead before longer ≤ longer

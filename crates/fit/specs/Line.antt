@@ -21,7 +21,7 @@ AllPass now w A (l ∷ ls) = Passes w (demand now l) A × AllPass now w (λ y. A
 abbrev pub passes_to : ℕ → ℕ → (ℕ → ℕ) → (ℕ → ℕ) → Bool
 passes_to b w d A = all_below (λ Δ. (d Δ == 0) || nat_le (1024 * (w + d Δ) + A Δ) (1024 * Δ)) (suc b)
 
--- `All-pass` at the lengths up to b
+-- `AllPass` at the lengths up to b
 abbrev pub all_pass_to : ℕ → ℕ → ℕ → (ℕ → ℕ) → List LaneModel → Bool
 all_pass_to b now w A [] = true
 all_pass_to b now w A (l ∷ ls) = passes_to b w (demand now l) A && all_pass_to b now w (λ y. A y + line_load l y) ls

@@ -18,7 +18,7 @@ all_below p (suc n) = p n && all_below p n
 abbrev pub fits_to : ℕ → ℕ → (ℕ → ℕ) → (ℕ → ℕ) → Bool
 fits_to b w d I = all_below (λ Δ. (d Δ == 0) || some_below (λ y. nat_le (w + d Δ + I y) y) (suc Δ)) (suc b)
 
--- `All-fit` at the lengths up to b
+-- `AllFit` at the lengths up to b
 abbrev pub all_fit_to : ℕ → ℕ → ℕ → (ℕ → ℕ) → List LaneModel → Bool
 all_fit_to b now w I [] = true
 all_fit_to b now w I (l ∷ ls) = fits_to b w (demand now l) I && all_fit_to b now w (λ y. I y + load l y) ls

@@ -1,6 +1,6 @@
 -- What every staircase, every task, every lane and every state has by its type.
 use Rattle.std.specs.Prelude.{◌≡◌, ℕ, ◌+◌, ◌≤◌, Bool, true, ◌&&◌, List, [], ◌∷◌, map, length, nat_le}
-use Rattle.std.specs.List.{AllByRecursion as All}
+use Rattle.std.specs.List.{AllByRecursion}
 use Rattle.arrivals.specs.Clock.{last_reading}
 use Rattle.arrivals.specs.Counter.{sound}
 use Rattle.fit.specs.State.{StateModel, idle, state_tasks}
@@ -26,7 +26,7 @@ pub record TaskFormed (t : TaskModel) : Type 0 where
   pub deadline_below : t.deadline ≤ 1024
   pub some_staircase : 1 ≤ length t.staircases
   pub few_staircases : length t.staircases ≤ 4
-  pub staircases : All StaircaseFormed t.staircases
+  pub staircases : AllByRecursion StaircaseFormed t.staircases
   -- at most eight jobs can be pending at once
   pub few_pending : pending_bound t.deadline t.staircases ≤ 8
 
@@ -36,7 +36,7 @@ pub record LaneFormed (l : LaneModel) : Type 0 where
   -- one bucket for each staircase of the task
   pub own : map (λ b. b.staircase) l.buckets ≡ l.task.staircases
   -- a short counter has fewer tokens than the burst and is younger than the step
-  pub counters : All (λ b. sound b.staircase b.counter ≡ true) l.buckets
+  pub counters : AllByRecursion (λ b. sound b.staircase b.counter ≡ true) l.buckets
   pub few : length l.pending ≤ 8
   -- each pending job has something left, and at most the limit
   pub worked : within_limit l.task.limit l.pending ≡ true
@@ -58,8 +58,8 @@ costs_within (j ∷ js) = (nat_le 1 j.remaining && nat_le j.remaining 1024) && c
 -- what a state has
 pub record WellFormed (s : StateModel) : Type 0 where
   pub few_tasks : length s.lanes ≤ 8
-  pub lanes : All LaneFormed s.lanes
-  pub dues : All (DuesInOrder s.clock) s.lanes
+  pub lanes : AllByRecursion LaneFormed s.lanes
+  pub dues : AllByRecursion (DuesInOrder s.clock) s.lanes
   -- the shares leave a sixteenth of the processor free
   pub light : shares (state_tasks s) ≤ 960
   pub readable : s.clock ≤ last_reading

@@ -2,7 +2,7 @@
 use Rattle.std.proofs.Common.{◌≡◌, ℕ, zero, suc, ◌<◌, ◌≤◌, Bool, true, false, cond, ◌&&◌, eqb, ltb, leb, List, [], ◌∷◌, map, length, Some, None, Option, sym, refl, ap, ◌∙◌, subst, inl, inr, arith}
 use Rattle.std.proofs.lemmas.List.{length-map}
 use Rattle.std.proofs.lemmas.Bool.{and_parts, cond_both, cond-false, cond-true, le-ltb, leb-true, lt-ltb, ltb-false}
-use Rattle.std.specs.List.{AllByRecursion as All}
+use Rattle.std.specs.List.{AllByRecursion}
 use Rattle.arrivals.specs.Clock.{last_reading}
 use Rattle.fit.proofs.FirstMisfit.{search_finds}
 use Rattle.fit.proofs.Fresh.{fresh_well_formed, tasks_fresh_formed}
@@ -35,7 +35,7 @@ abbrev first_of : List ℕ → ℕ
 first_of [] = 0
 first_of (n ∷ ns) = n
 
-module _ (reading : ℕ) (ts : List TaskModel) (ok : All TaskFormed ts) (few : length ts ≤ 8) where
+module _ (reading : ℕ) (ts : List TaskModel) (ok : AllByRecursion TaskFormed ts) (few : length ts ≤ 8) where
   -- a refusal before the tasks are weighed
   by_number : (n : ℕ) → n < 7 → OpensRightly reading ts (refused (plain n))
   by_number n early =
@@ -48,7 +48,7 @@ module _ (reading : ℕ) (ts : List TaskModel) (ok : All TaskFormed ts) (few : l
       }
 
   module _ (light : shares ts ≤ 960) (readable : reading ≤ last_reading) where
-    formed_lanes : All LaneFormed (map fresh_lane ts)
+    formed_lanes : AllByRecursion LaneFormed (map fresh_lane ts)
     formed_lanes = tasks_fresh_formed ts ok
 
     found : FirstMisfit reading 0 (map fresh_lane ts) (first_misfit reading 0 (map fresh_lane ts))

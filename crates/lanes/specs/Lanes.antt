@@ -1,5 +1,5 @@
 -- The lanes of a whole task set, the one with the highest priority first.
-use Rattle.std.specs.Prelude.{ℕ, cond, List, map, Some, None, Option, nat_le}
+use Rattle.std.specs.Prelude.{cond, List, map, Some, None, Option, nat_le}
 use Rattle.bounded.specs.List.{items}
 use Rattle.tasks.specs.Task.{TaskModel}
 use Rattle.lanes.specs.Lane.{LaneModel, fresh_lane, lane_of}

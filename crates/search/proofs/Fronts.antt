@@ -1,7 +1,7 @@
 -- The front of the first lanes of a list: its parts are the sums over these lanes, and it grows lane by lane.
 use Rattle.std.proofs.Common.{◌≡◌, ℕ, zero, suc, ◌+◌, ◌-◌, ◌*◌, ◌<◌, ◌≤◌, List, [], ◌∷◌, ◌++◌, map, length, get_or, take, sym, refl, ap, ◌∙◌, mul-le-mul, arith}
 use Rattle.std.proofs.lemmas.List.{map_more}
-use Rattle.std.specs.List.{AllByRecursion as All}
+use Rattle.std.specs.List.{AllByRecursion}
 use Rattle.fit.proofs.Formed.{lane_formed, lanes_formed}
 use Rattle.fit.proofs.Horizons.{standing_at_most_peak}
 use Rattle.fit.proofs.Rates.{line_load_rate, long_staircase_formed}
@@ -84,12 +84,12 @@ stands_before zero lanes = omega arith
 stands_before (suc i) [] = omega arith
 stands_before (suc i) (l ∷ lanes) = omega (arith, lane_stands (lane_of l) (lane_formed l), stands_before i lanes)
 
-start_added : (f : Front) (ls : List LaneModel) → All LaneFormed ls → (with_lanes f ls).start ≤ f.start + 1024 * standing ls
+start_added : (f : Front) (ls : List LaneModel) → AllByRecursion LaneFormed ls → (with_lanes f ls).start ≤ f.start + 1024 * standing ls
 start_added f [] ok = omega arith
 start_added f (l ∷ ls) ok = omega (arith, line_load_rate l ok.0 0, start_added (with_lane f l) ls ok.1)
 
 -- the lines above the loads begin with at most what stands
-pub front_start : (ls : List LaneModel) → All LaneFormed ls → (with_lanes empty_front ls).start ≤ 1024 * standing ls
+pub front_start : (ls : List LaneModel) → AllByRecursion LaneFormed ls → (with_lanes empty_front ls).start ≤ 1024 * standing ls
 front_start ls ok = omega (arith, start_added empty_front ls ok)
 
 -- how large a front gets, where the tasks leave a sixteenth of the processor free

@@ -1,6 +1,6 @@
 -- The tasks weighed one after the other, each behind what those before it may ask.
 use Rattle.std.proofs.Common.{◌≡◌, ℕ, ◌+◌, ◌*◌, ◌<◌, ◌≤◌, ◌↔◌, List, [], ◌∷◌, ◌++◌, sym, refl, ap, ◌∙◌, subst, arith}
-use Rattle.std.specs.List.{AllByRecursion as All}
+use Rattle.std.specs.List.{AllByRecursion}
 use Rattle.fit.proofs.Horizons.{Rated}
 use Rattle.fit.specs.Fit.{ahead}
 use Rattle.fit.specs.Weighing.{AllWeigh, Weighs}
@@ -52,7 +52,7 @@ asked_is Line before y =
     omega (arith, asked_by_lines empty_front before y, asked_same line_load (λ z. empty_front.start + empty_front.shares * z) (λ z. 0) before y (λ z. omega arith))
 
 -- it lies below the straight line of what stands and of the shares
-pub asked_rated : (ld : LaneModel → ℕ → ℕ) → Rated ld → (A : ℕ → ℕ) (ls : List LaneModel) (y : ℕ) → All LaneFormed ls
+pub asked_rated : (ld : LaneModel → ℕ → ℕ) → Rated ld → (A : ℕ → ℕ) (ls : List LaneModel) (y : ℕ) → AllByRecursion LaneFormed ls
     → asked_after ld A ls y ≤ A y + 1024 * standing ls + shares (tasks_of ls) * y
 asked_rated ld rated A [] y ok = omega arith
 asked_rated ld rated A (l ∷ ls) y ok = omega (arith, asked_rated ld rated (λ z. A z + ld l z) ls y ok.1, rated l ok.0 y)

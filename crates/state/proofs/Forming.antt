@@ -2,7 +2,7 @@
 use Rattle.std.proofs.Common.{◌≡◌, ℕ, ◌+◌, true, cond, ◌&&◌, List, [], ◌∷◌, map, length, sym, ◌∙◌, arith}
 use Rattle.std.proofs.lemmas.List.{length-map}
 use Rattle.std.proofs.lemmas.Bool.{and_parts, cond-true}
-use Rattle.std.specs.List.{AllByRecursion as All}
+use Rattle.std.specs.List.{AllByRecursion}
 use Rattle.bounded.specs.List.{items}
 use Rattle.fit.proofs.Formed.{few_items, lanes_formed}
 use Rattle.fit.specs.WellFormed.{DuesInOrder, WellFormed, all_in_order}
@@ -12,7 +12,7 @@ use Rattle.lanes.specs.Lane.{LaneModel, lane_of}
 use Rattle.state.specs.State.{state_of}
 use Rattle.state.specs.declared.state.State.{State}
 
-each_in_order : (now : ℕ) (ls : List LaneModel) → all_in_order now ls ≡ true → All (DuesInOrder now) ls
+each_in_order : (now : ℕ) (ls : List LaneModel) → all_in_order now ls ≡ true → AllByRecursion (DuesInOrder now) ls
 each_in_order now [] e = tt
 each_in_order now (l ∷ ls) e =
     let parts = and_parts (in_order 0 (now + l.task.deadline) l.pending) (all_in_order now ls) e in

@@ -3,7 +3,7 @@ use Rattle.std.proofs.Common.{◌≡◌, ℕ, zero, suc, ◌+◌, ◌<◌, ◌�
 use Rattle.std.proofs.lemmas.List.{at_drop_all, at_drop_more}
 use Rattle.std.proofs.lemmas.Bool.{cases_cond, cond_both}
 use Rattle.std.proofs.lemmas.Bool.Decides.{nat_tests}
-use Rattle.std.specs.List.{ContainsAt as Has, AllByRecursion as All}
+use Rattle.std.specs.List.{ContainsAt, AllByRecursion}
 use Rattle.tasks.specs.LongStaircase.{LongOf}
 use Rattle.tasks.specs.Staircase.{StaircaseModel, long_staircase, longer, longest, longest_by, longest_of, no_staircase}
 
@@ -50,18 +50,18 @@ still_no_longer x s [] h = h
 still_no_longer x s (t ∷ ts) h =
     still_no_longer x (cond (longer t s) t s) ts (cond_both (longer t s) t s (λ u. longer x u ≡ false) (no_longer x t s h) (λ _. h))
 
-longest_most : (s : StaircaseModel) (ss : List StaircaseModel) → All (λ t. longer t (longest s ss) ≡ false) ss
+longest_most : (s : StaircaseModel) (ss : List StaircaseModel) → AllByRecursion (λ t. longer t (longest s ss) ≡ false) ss
 longest_most s [] = tt
 longest_most s (u ∷ us) = (
   still_no_longer u (cond (longer u s) u s) us (cond_both (longer u s) u s (λ x. longer u x ≡ false) (λ _. not_itself u) (λ h. h)),
   longest_most (cond (longer u s) u s) us,
 )
 
-longest_own : (s : StaircaseModel) (ss : List StaircaseModel) → Has (s ∷ ss) (longest s ss)
+longest_own : (s : StaircaseModel) (ss : List StaircaseModel) → ContainsAt (s ∷ ss) (longest s ss)
 longest_own s [] = (0, omega arith, λ d. refl)
 longest_own s (t ∷ ts) = placed (longest_own (cond (longer t s) t s) ts)
   where
-    placed : Has (cond (longer t s) t s ∷ ts) (longest (cond (longer t s) t s) ts) → Has (s ∷ t ∷ ts) (longest (cond (longer t s) t s) ts)
+    placed : ContainsAt (cond (longer t s) t s ∷ ts) (longest (cond (longer t s) t s) ts) → ContainsAt (s ∷ t ∷ ts) (longest (cond (longer t s) t s) ts)
     placed (zero, h, e) =
         elim (cases_cond (longer t s) t s (cond (longer t s) t s) refl) [
           | inl a ↦ (1, omega arith, λ d. sym a ∙ e d)

@@ -1,6 +1,6 @@
 -- What the tasks of a set take together.
 use Rattle.std.specs.Prelude.{ℕ, ◌+◌, ◌*◌, List, [], ◌∷◌}
-use Rattle.tasks.specs.Staircase.{StaircaseModel, long_staircase}
+use Rattle.tasks.specs.Staircase.{long_staircase}
 use Rattle.tasks.specs.Task.{TaskModel, share}
 
 -- the 1024ths of the processor that these tasks take together in the long run

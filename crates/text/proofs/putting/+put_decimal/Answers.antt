@@ -18,8 +18,8 @@ returns-then-number-lt10 t c =
 pub bounds-buffer-at-2 : goal.bounds-buffer-at-2
 bounds-buffer-at-2 t c = let l = decimal_length_step c.args.number (omega arith) (omega arith) in search rules
 
-pub overflow-add-result-2 : goal.overflow-add-result-2
-overflow-add-result-2 t c = let l = decimal_length_step c.args.number (omega arith) (omega arith) in search rules
+pub overflow_add-result-2 : goal.overflow_add-result-2
+overflow_add-result-2 t c = let l = decimal_length_step c.args.number (omega arith) (omega arith) in search rules
 
 pub returns : goal.returns
 returns t c =

@@ -1,4 +1,4 @@
-use Rattle.std.proofs.Common.{map, rules}
+use Rattle.std.proofs.Common.{map}
 use Rattle.arrivals.specs.Bucket.{counters_of}
 use Rattle.arrivals.specs.declared.counter.Event.TheVariants.{Arrival}
 use Rattle.bounded.specs.List.{items}

@@ -1,4 +1,4 @@
-use Rattle.std.proofs.Common.{map, ap, ◌∙◌, rules}
+use Rattle.std.proofs.Common.{map, ap, ◌∙◌}
 use Rattle.arrivals.specs.Bucket.{matched}
 use Rattle.bounded.specs.List.{items}
 use Rattle.tasks.specs.Staircase.{staircase_of}

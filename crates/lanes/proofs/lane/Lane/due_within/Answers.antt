@@ -1,4 +1,4 @@
-use Rattle.std.proofs.Common.{◌≡◌, ℕ, ◌+◌, ◌≤◌, cond, leb, List, length, get_or, refl, ap, arith}
+use Rattle.std.proofs.Common.{ℕ, ◌+◌, ◌≤◌, cond, leb, List, length, get_or, refl, ap, arith}
 use Rattle.bounded.specs.List.{items}
 use Rattle.lanes.specs.Job.{due_by}
 use Rattle.lanes.specs.declared.job.Job.{Job}
@@ -26,8 +26,8 @@ small c =
       ap (λ (js : List Job). part t (get_or js c.loop-job.job-index (record { due = 0; remaining = 0 }))) same,
     )
 
-pub overflow-add-work : goal.overflow-add-work
-overflow-add-work c = omega (arith, small c)
+pub overflow_add-work : goal.overflow_add-work
+overflow_add-work c = omega (arith, small c)
 
 pub loop-job-preserved : goal.loop-job-preserved
 loop-job-preserved c =

@@ -1,10 +1,10 @@
-use Rattle.std.proofs.Common.{◌≡◌, ◌+◌, ◌*◌, ◌≤◌, min, sym, ap, ◌∙◌, mul-le-mul_right, arith}
-use Rattle.arrivals.specs.Bucket.{BucketModel, bucket_of}
-use Rattle.arrivals.specs.Counter.{age, tokens}
+use Rattle.std.proofs.Common.{◌≡◌, ◌+◌, ◌*◌, min, ap, ◌∙◌, mul-le-mul_right, arith}
+use Rattle.arrivals.specs.Bucket.{bucket_of}
+use Rattle.arrivals.specs.Counter.{age}
 use Rattle.bounded.specs.List.{items}
 use Rattle.lanes.specs.Job.{backlog}
 use Rattle.lanes.specs.Lane.{lane_of}
-use Rattle.lanes.specs.Line.{line_from, line_start}
+use Rattle.lanes.specs.Line.{line_from}
 use Rattle.tasks.specs.Task.{share, task_of}
 use Rattle.lanes.proofs.lane.Lane.line_start.Goals as goal
 

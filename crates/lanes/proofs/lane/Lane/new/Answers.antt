@@ -1,4 +1,4 @@
-use Rattle.std.proofs.Common.{true, map, refl, ap, ◌∙◌}
+use Rattle.std.proofs.Common.{map, ap, ◌∙◌}
 use Rattle.arrivals.proofs.Matched.{matched_full}
 use Rattle.arrivals.specs.Bucket.{matched}
 use Rattle.bounded.specs.List.{items}

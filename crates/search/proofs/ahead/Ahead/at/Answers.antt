@@ -3,8 +3,8 @@ use Rattle.fit.specs.Fit.{ahead}
 use Rattle.lanes.specs.Lane.{lane_of}
 use Rattle.search.proofs.ahead.Ahead.at.Goals as goal
 
-pub overflow-add-result-2 : goal.overflow-add-result-2
-overflow-add-result-2 c = omega (arith, c.asked.ensures.bound, c.requires.0.start, mul-le-mul_right c.from.result c.requires.0.share, c.from.ensures, c.requires.1)
+pub overflow_add-result-2 : goal.overflow_add-result-2
+overflow_add-result-2 c = omega (arith, c.asked.ensures.bound, c.requires.0.start, mul-le-mul_right c.from.result c.requires.0.share, c.from.ensures, c.requires.1)
 
 pub returns : goal.returns
 returns c =
