@@ -11,7 +11,7 @@ use Rattle.fit.specs.Sound.{Sound}
 use Rattle.fit.specs.State.{fresh_state}
 use Rattle.fit.specs.WellFormed.{LaneFormed}
 use Rattle.lanes.proofs.Fresh.{tasks_of_fresh}
-use Rattle.lanes.specs.Lane.{LaneModel, fresh_lane, fresh_lanes, tasks_of}
+use Rattle.lanes.specs.Lane.{LaneModel, fresh_lane, fresh_lanes}
 use Rattle.tasks.specs.Task.{TaskModel}
 use Rattle.tasks.specs.TaskSet.{shares}
 

@@ -3,7 +3,6 @@ use Rattle.std.proofs.Common.{◌≡◌, ℕ, ◌+◌, ◌-◌, ◌*◌, ◌≤�
 use Rattle.std.proofs.lemmas.Bool.{and_parts, cond_both, leb-true}
 use Rattle.std.specs.List.{AllByRecursion}
 use Rattle.arrivals.specs.Bucket.{full, long_bucket}
-use Rattle.arrivals.specs.Counter.{sound}
 use Rattle.tasks.specs.Staircase.{StaircaseModel, long_staircase, longer, longest, longest_by}
 use Rattle.tasks.specs.Task.{TaskModel, share}
 use Rattle.fit.proofs.Fresh.{all_fresh_formed, fresh_by_tasks, fresh_light}
@@ -15,16 +14,16 @@ use Rattle.lanes.specs.Demand.{demand, load}
 use Rattle.fit.specs.Exact.{exact, fresh_allowance_of}
 use Rattle.fit.specs.Fit.{AllFit}
 use Rattle.fit.specs.Fixed.{fixed, fixed_of}
-use Rattle.tasks.specs.TaskSet.{long_burst, shares}
+use Rattle.tasks.specs.TaskSet.{long_burst}
 use Rattle.lanes.specs.Job.{backlog}
 use Rattle.lanes.proofs.Fresh.{tasks_of_fresh}
-use Rattle.lanes.specs.Lane.{LaneModel, fresh_lane, fresh_lanes, tasks_of}
+use Rattle.lanes.specs.Lane.{LaneModel, fresh_lane, fresh_lanes}
 use Rattle.fit.specs.Laws.{Laws}
 use Rattle.fit.specs.Line.{AllPass, line}
 use Rattle.lanes.specs.Line.{line_load}
 use Rattle.fit.specs.Greatest.{Greatest}
 use Rattle.fit.specs.Sound.{Sound}
-use Rattle.fit.specs.WellFormed.{LaneFormed, TaskFormed, WellFormed}
+use Rattle.fit.specs.WellFormed.{LaneFormed, WellFormed}
 use Rattle.fit.specs.State.{StateModel, fresh_state, idle, none, none_pending, released_work, state_tasks, work_of}
 use Rattle.lanes.specs.declared.released.Released.{Released}
 

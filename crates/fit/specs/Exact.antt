@@ -6,7 +6,7 @@ use Rattle.fit.specs.Horizon.{horizon}
 use Rattle.lanes.specs.Lane.{LaneModel, tasks_of}
 use Rattle.fit.specs.Search.{all_fit_to}
 use Rattle.fit.specs.Greatest.{Greatest, greatest}
-use Rattle.fit.specs.State.{StateModel, fresh_state, state_tasks}
+use Rattle.fit.specs.State.{StateModel, fresh_state}
 
 -- by search over the lengths up to the horizon, above which none decides
 unfoldable pub exact_allowance : ℕ → List LaneModel → ℕ

@@ -1,5 +1,5 @@
 -- How fit lasts: for one task with what runs before it, and for a given runner.
-use Rattle.std.specs.Prelude.{◌≡◌, ℕ, zero, suc, ◌+◌, ◌<◌, ◌≤◌, Bool, true, false, List, [], ◌∷◌, map}
+use Rattle.std.specs.Prelude.{◌≡◌, ℕ, zero, suc, ◌<◌, ◌≤◌, Bool, true, false, List, [], ◌∷◌, map}
 use Rattle.std.specs.List.{AllByRecursion}
 use Rattle.arrivals.specs.Bucket.{has_token}
 use Rattle.fit.specs.Fit.{FitsBehind}

@@ -1,5 +1,5 @@
 -- What the answer to opening says, test by test.
-use Rattle.std.proofs.Common.{◌≡◌, ℕ, zero, suc, ◌<◌, ◌≤◌, Bool, true, false, cond, ◌&&◌, eqb, ltb, leb, List, [], ◌∷◌, map, length, Some, None, Option, sym, refl, ap, ◌∙◌, subst, inl, inr, arith}
+use Rattle.std.proofs.Common.{◌≡◌, ℕ, zero, suc, ◌<◌, ◌≤◌, Bool, true, false, cond, ◌&&◌, eqb, ltb, leb, List, [], ◌∷◌, map, length, Some, None, Option, sym, refl, ap, ◌∙◌, subst, arith}
 use Rattle.std.proofs.lemmas.List.{length-map}
 use Rattle.std.proofs.lemmas.Bool.{and_parts, cond_both, cond-false, cond-true, le-ltb, leb-true, lt-ltb, ltb-false}
 use Rattle.std.specs.List.{AllByRecursion}
@@ -9,22 +9,20 @@ use Rattle.fit.proofs.Fresh.{fresh_well_formed, tasks_fresh_formed}
 use Rattle.fit.proofs.FreshSound.{fresh_sound}
 use Rattle.fit.specs.Fit.{FirstMisfit}
 use Rattle.fit.specs.Search.{first_misfit}
-use Rattle.fit.specs.Sound.{Sound}
-use Rattle.fit.specs.WellFormed.{LaneFormed, TaskFormed, WellFormed}
+use Rattle.fit.specs.WellFormed.{LaneFormed, TaskFormed}
 use Rattle.fit.specs.State.{StateModel, fresh_state, none}
 use Rattle.lanes.proofs.Fresh.{tasks_of_fresh}
-use Rattle.lanes.specs.Lane.{LaneModel, fresh_lane, tasks_of}
+use Rattle.lanes.specs.Lane.{fresh_lane}
 use Rattle.tasks.specs.Reply.{Refusal, Reply, plain, refused, served, then}
 use Rattle.state.specs.State.{opened}
 use Rattle.state.proofs.Idle.{none_by_length}
 use Rattle.tasks.specs.Task.{TaskModel, task_of}
 use Rattle.tasks.specs.declared.task.Task.{Task}
 use Rattle.tasks.specs.TaskSet.{shares}
-use Rattle.gate.specs.Opening.{allowed, open_answer, refused_if, unless_misfit}
+use Rattle.gate.specs.Opening.{allowed, open_answer, unless_misfit}
 use Rattle.gate.specs.OpensRightly.{OpensRightly}
 use Rattle.gate.specs.OpenRefusal.{open_refusal}
-use Rattle.gate.specs.declared.refusal.OpenRefusal.{OpenRefusal}
-use Rattle.gate.specs.declared.refusal.OpenRefusal.TheVariants.{Misfit, NoTask, NothingAllowed, ReadingTooLate, SharesTooLarge}
+use Rattle.gate.specs.declared.refusal.OpenRefusal.TheVariants.{Misfit, NoTask, ReadingTooLate, SharesTooLarge}
 
 -- the refusal of an answer, where it is one
 abbrev refusal_of : Reply ℕ → Refusal

@@ -1,5 +1,5 @@
 -- A sweep over the lengths for one task, length by length.
-use Rattle.std.proofs.Common.{◌≡◌, ℕ, zero, suc, ◌+◌, ◌-◌, ◌*◌, ◌/◌, ◌<◌, ◌≤◌, min, max, Bool, true, false, cond, ◌||◌, eqb, leb, ◌↔◌, sym, refl, ap, ◌∙◌, subst, inl, inr, mul-le-mul_left, add-one, arith}
+use Rattle.std.proofs.Common.{◌≡◌, ℕ, suc, ◌+◌, ◌-◌, ◌*◌, ◌<◌, ◌≤◌, min, max, Bool, true, false, cond, eqb, ◌↔◌, sym, refl, ap, ◌∙◌, subst, inl, inr, mul-le-mul_left, add-one, arith}
 use Rattle.std.proofs.lemmas.Bool.{cases_lt, eqb-true, leb-false, leb-true, or_cases, or_parts}
 use Rattle.fit.proofs.Sweeping.{slack_below, task_tells}
 use Rattle.fit.specs.Weighing.{Weighs, WeighsBelow}

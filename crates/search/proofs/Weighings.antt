@@ -7,11 +7,9 @@ use Rattle.fit.specs.Weighing.{AllWeigh, Weighs}
 use Rattle.fit.specs.WellFormed.{LaneFormed}
 use Rattle.lanes.specs.Demand.{demand, load}
 use Rattle.lanes.specs.Lane.{LaneModel, tasks_of}
-use Rattle.lanes.specs.Line.{line_load, line_start}
-use Rattle.lanes.specs.Standing.{standing, standing_of}
-use Rattle.tasks.specs.Task.{share}
+use Rattle.lanes.specs.Line.{line_load}
+use Rattle.lanes.specs.Standing.{standing}
 use Rattle.tasks.specs.TaskSet.{shares}
-use Rattle.search.specs.Ahead.{asked_by}
 use Rattle.search.specs.Front.{empty_front, with_lane, with_lanes}
 use Rattle.search.specs.Weighing.{WeighsUpTo, asked_of, load_by}
 use Rattle.search.specs.declared.allowance.Bound.{Bound}

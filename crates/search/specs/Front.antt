@@ -1,5 +1,5 @@
 -- What the tasks of a front part of the lanes take together.
-use Rattle.std.specs.Prelude.{ℕ, ◌+◌, List, [], ◌∷◌}
+use Rattle.std.specs.Prelude.{◌+◌, List, [], ◌∷◌}
 use Rattle.lanes.specs.Lane.{LaneModel}
 use Rattle.lanes.specs.Line.{line_start}
 use Rattle.lanes.specs.Standing.{standing_of}

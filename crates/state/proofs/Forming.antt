@@ -1,12 +1,12 @@
 -- Every state that code holds is well formed: the ghost fields of its types say so.
-use Rattle.std.proofs.Common.{◌≡◌, ℕ, ◌+◌, true, cond, ◌&&◌, List, [], ◌∷◌, map, length, sym, ◌∙◌, arith}
+use Rattle.std.proofs.Common.{◌≡◌, ℕ, ◌+◌, true, List, [], ◌∷◌, map, sym, ◌∙◌, arith}
 use Rattle.std.proofs.lemmas.List.{length-map}
 use Rattle.std.proofs.lemmas.Bool.{and_parts, cond-true}
 use Rattle.std.specs.List.{AllByRecursion}
 use Rattle.bounded.specs.List.{items}
 use Rattle.fit.proofs.Formed.{few_items, lanes_formed}
 use Rattle.fit.specs.WellFormed.{DuesInOrder, WellFormed, all_in_order}
-use Rattle.fit.specs.State.{idle, none, none_pending}
+use Rattle.fit.specs.State.{idle}
 use Rattle.lanes.specs.Job.{in_order}
 use Rattle.lanes.specs.Lane.{LaneModel, lane_of}
 use Rattle.state.specs.State.{state_of}

@@ -1,5 +1,5 @@
 -- What holds of lanes that have had no arrival.
-use Rattle.std.proofs.Common.{◌≡◌, ℕ, Bool, true, false, cond, List, [], ◌∷◌, map, Some, None, Option, sym, refl, ap, ◌∙◌, arith}
+use Rattle.std.proofs.Common.{◌≡◌, ℕ, Bool, true, false, cond, List, [], ◌∷◌, map, Some, None, sym, refl, ap, ◌∙◌, arith}
 use Rattle.fit.specs.Exact.{exact_allowance, fresh_allowance_of}
 use Rattle.fit.specs.WellFormed.{all_in_order}
 use Rattle.lanes.proofs.Fresh.{tasks_of_fresh}

@@ -1,9 +1,9 @@
 -- A search for a pending job.
-use Rattle.std.proofs.Common.{◌≡◌, ℕ, ◌+◌, ◌<◌, ◌≤◌, Bool, true, false, ◌&&◌, eqb, List, [], ◌∷◌, map, length, get_or, drop, sym, refl, ap, ◌∙◌, arith}
+use Rattle.std.proofs.Common.{◌≡◌, ℕ, ◌+◌, ◌<◌, ◌≤◌, true, false, ◌&&◌, eqb, List, [], ◌∷◌, map, length, get_or, drop, sym, refl, ap, ◌∙◌, arith}
 use Rattle.std.proofs.lemmas.List.{at_drop_all, at_drop_more}
 use Rattle.std.proofs.lemmas.Bool.{ne_eqb}
 use Rattle.fit.specs.State.{none, none_pending}
-use Rattle.lanes.specs.Lane.{LaneModel, lane_of}
+use Rattle.lanes.specs.Lane.{lane_of}
 use Rattle.lanes.specs.declared.lane.Lane.{Lane}
 
 -- a list without elements has the length 0

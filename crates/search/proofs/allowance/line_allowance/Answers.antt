@@ -1,8 +1,8 @@
-use Rattle.std.proofs.Common.{◌≡◌, ℕ, ◌≤◌, List, map, sym, subst}
+use Rattle.std.proofs.Common.{List, sym, subst}
 use Rattle.bounded.specs.List.{items}
 use Rattle.fit.proofs.Allowances.{line_found, line_passes}
 use Rattle.fit.proofs.Formed.{lanes_formed}
-use Rattle.fit.specs.Line.{LinePasses, line_allowance}
+use Rattle.fit.specs.Line.{LinePasses}
 use Rattle.lanes.specs.Lane.{LaneModel}
 use Rattle.lanes.specs.Lanes.{lanes_of}
 use Rattle.search.specs.Weighing.{WeighsUpTo, load_by}

@@ -1,4 +1,4 @@
-use Rattle.std.proofs.Common.{◌≡◌, ℕ, List, [], length, sym, refl, ap, ◌∙◌, subst, arith, rules}
+use Rattle.std.proofs.Common.{◌≡◌, ℕ, List, sym, refl, ap, ◌∙◌, subst, arith}
 use Rattle.std.proofs.lemmas.List.{length-map}
 use Rattle.std.proofs.lemmas.Result.{err_from_is_err_and}
 use Rattle.bounded.specs.List.{items}
@@ -6,7 +6,7 @@ use Rattle.fit.proofs.Formed.{few_items, tasks_formed}
 use Rattle.fit.specs.State.{StateModel, fresh_state}
 use Rattle.state.specs.State.{state_of}
 use Rattle.tasks.specs.Draft.{draft_of}
-use Rattle.tasks.specs.Reply.{Reply, refused, reply, served}
+use Rattle.tasks.specs.Reply.{refused, reply}
 use Rattle.tasks.specs.Task.{task_of}
 use Rattle.gate.specs.Gate.{GateModel, gate_of}
 use Rattle.gate.specs.Opening.{open_answer, opened_by}

@@ -17,14 +17,14 @@ returns-then-is_empty g c =
     let meaning = g.R.Allowance.meaning c.args.self.now.rule in
     record { answer = sym (ap (beside (fresh_state c.args.reading ts)) (no_task meaning c.args.reading ts (tasks_there c.tasks.result.now ts true c.tasks.ensures.value c.if-is_empty.ensures))) }
 
-pub returns-then-reading-gt-LAST-READING : goal.returns-then-reading-gt-LAST-READING
-returns-then-reading-gt-LAST-READING g c =
+pub returns-then-reading-gt-LAST_READING : goal.returns-then-reading-gt-LAST_READING
+returns-then-reading-gt-LAST_READING g c =
     let ts = draft_of c.args.draft.now in
     let meaning = g.R.Allowance.meaning c.args.self.now.rule in
     record {
       answer =
           sym (ap (beside (fresh_state c.args.reading ts))
-          (too_late meaning c.args.reading ts (tasks_there c.tasks.result.now ts false c.tasks.ensures.value c.if-is_empty.ensures) c.if-reading-gt-LAST-READING.true));
+          (too_late meaning c.args.reading ts (tasks_there c.tasks.result.now ts false c.tasks.ensures.value c.if-is_empty.ensures) c.if-reading-gt-LAST_READING.true));
     }
 
 pub returns-then-allowance-eq0 : goal.returns-then-allowance-eq0

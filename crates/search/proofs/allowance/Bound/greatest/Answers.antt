@@ -1,4 +1,4 @@
-use Rattle.std.proofs.Common.{◌≡◌, ℕ, ◌+◌, ◌-◌, map, drop, sym, refl, ap, ◌∙◌, subst, arith}
+use Rattle.std.proofs.Common.{◌≡◌, ℕ, ◌+◌, ◌-◌, map, drop, sym, refl, ap, subst, arith}
 use Rattle.std.proofs.lemmas.List.{at_drop_all, length-take}
 use Rattle.lanes.specs.Lane.{lane_of}
 use Rattle.search.specs.Weighing.{load_by}

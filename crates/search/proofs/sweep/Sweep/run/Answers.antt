@@ -1,4 +1,4 @@
-use Rattle.std.proofs.Common.{◌≡◌, sym, ap, ◌∙◌, subst, arith}
+use Rattle.std.proofs.Common.{sym, ap, subst, arith}
 use Rattle.search.specs.Ahead.{Few}
 use Rattle.search.specs.declared.sweep.Sweep.{Sweep}
 use Rattle.search.proofs.Sweeps.{Swept, swept_all, swept_more, undecided_short}

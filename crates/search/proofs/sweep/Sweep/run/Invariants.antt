@@ -1,4 +1,4 @@
-use Rattle.std.proofs.Common.{◌-◌, ◌≤◌}
+use Rattle.std.proofs.Common.{◌-◌}
 use Rattle.search.proofs.Sweeps.{Swept}
 use Rattle.search.proofs.sweep.Sweep.run.Given as goal
 

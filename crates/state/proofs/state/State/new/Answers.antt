@@ -13,13 +13,12 @@ pub invariant_of-result : goal.invariant_of-result
 invariant_of-result c =
     let ts = draft_of c.args.draft.now in
     let ls = lanes_of c.in_ok-lanes.lanes in
-    let fresh : ls ≡ map fresh_lane ts = made_fresh (leb (shares ts) 960) ls (map fresh_lane ts) c.in_ok-lanes.ensures in (
-      omega (arith, c.if-reading-gt-LAST-READING.false),
-      (
-        ap (all_in_order c.args.reading) fresh ∙ fresh_in_order c.args.reading ts,
-        (
-          ap costs_within c.new-2.ensures,
-          (omega arith, (nothing_granted (none_pending ls && none (items c.new-2.result)), (c.exact_allowance.ensures.value ∙ fresh_exact ls ts fresh, tt))),
-        ),
-      ),
-    )
+    let fresh : ls ≡ map fresh_lane ts = made_fresh (leb (shares ts) 960) ls (map fresh_lane ts) c.in_ok-lanes.ensures in
+    record {
+      readable = omega (arith, c.if-reading-gt-LAST_READING.false);
+      dues = ap (all_in_order c.args.reading) fresh ∙ fresh_in_order c.args.reading ts;
+      costs = ap costs_within c.new-2.ensures;
+      held = omega arith;
+      settled = nothing_granted (none_pending ls && none (items c.new-2.result));
+      fresh = c.exact_allowance.ensures.value ∙ fresh_exact ls ts fresh;
+    }

@@ -1,4 +1,4 @@
-use Rattle.std.proofs.Common.{◌≡◌, ◌≤◌, List, length, get_or, refl, ap, arith}
+use Rattle.std.proofs.Common.{◌≤◌, List, length, get_or, refl, ap, arith}
 use Rattle.bounded.specs.List.{items}
 use Rattle.fit.specs.State.{work_of}
 use Rattle.lanes.specs.declared.released.Released.{Released}
