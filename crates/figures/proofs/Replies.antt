@@ -5,7 +5,7 @@ use Rattle.std.proofs.lemmas.Bool.{and_parts, eqb-true}
 use Rattle.std.specs.Str.{bytes_eq}
 use Rattle.tasks.specs.Reply.{Refusal, Reply, refused, served}
 
--- two refusals have the same number and the same values; `sameBytes` compares any numbers
+-- two refusals have the same number and the same values; `bytes_eq` compares any numbers
 abbrev pub same_reply : Reply ℕ → Reply ℕ → Bool
 same_reply (served m) (served n) = eqb m n
 same_reply (served m) (refused r) = false

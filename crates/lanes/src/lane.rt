@@ -1,4 +1,4 @@
-ghost use Rattle.std.specs.Prelude.{◌≡◌, true, map, ⊤};
+ghost use Rattle.std.specs.Prelude.{◌≡◌, true, map};
 ghost use Rattle.arrivals.specs.Bucket.{counters_of, matched};
 ghost use Rattle.bounded.specs.List.{items};
 ghost use Rattle.lanes.specs.Job.{within_limit};
@@ -7,11 +7,11 @@ ghost use Rattle.tasks.specs.Staircase.{staircase_of};
 use crate::job::Job;
 use arrivals::Counters;
 use bounded::Bounded;
-use std::alloc::AllocError;
 use tasks::Task;
 
 // A task with a counter for each of its staircases and its pending jobs, oldest first. No job has more ticks left than the
 // task's execution limit, and none has nothing left.
+#[derive(Clone, Copy)]
 pub struct Lane {
     pub(crate) task: Task,
     pub(crate) counters: Counters,
@@ -19,15 +19,3 @@ pub struct Lane {
     ghost own: { matched (map staircase_of (items task.staircases)) (counters_of counters) ≡ true },
     ghost worked: { within_limit task.limit (items pending) ≡ true },
 }
-
-impl Clone for Lane {
-    ghost is_clone = { λ x y. y ≡ x };
-
-    ghost is_infallible = { λ _. ⊤ };
-
-    fn clone(&self) -> Result<Lane, AllocError> {
-        Ok(*self)
-    }
-}
-
-impl Copy for Lane {}

@@ -1,13 +1,13 @@
-ghost use Rattle.std.specs.Prelude.{◌≤◌, map, length, ◌≡◌, ⊤};
+ghost use Rattle.std.specs.Prelude.{◌≤◌, map, length};
 ghost use Rattle.bounded.specs.List.{items};
 ghost use Rattle.tasks.specs.Staircase.{pending_bound, staircase_of};
 
 use crate::staircase::Staircase;
 use bounded::Bounded;
-use std::alloc::AllocError;
 
 // A critical task: each of its jobs runs for at most `limit` ticks and has to end within `deadline` ticks of its arrival.
 // The facts below hold of every value, whoever made it; the last one is that at most eight jobs can be pending at once.
+#[derive(Clone, Copy)]
 pub struct Task {
     pub limit: u64,
     pub deadline: u64,
@@ -19,15 +19,3 @@ pub struct Task {
     ghost bounded_arrivals: { 1 ≤ length (items staircases) },
     ghost few_pending: { pending_bound deadline (map staircase_of (items staircases)) ≤ 8 },
 }
-
-impl Clone for Task {
-    ghost is_clone = { λ x y. y ≡ x };
-
-    ghost is_infallible = { λ _. ⊤ };
-
-    fn clone(&self) -> Result<Task, AllocError> {
-        Ok(*self)
-    }
-}
-
-impl Copy for Task {}
