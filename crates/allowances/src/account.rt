@@ -2,7 +2,7 @@
 use gate::Gate;
 use rules::Allowance;
 use std::io;
-use tasks::Draft;
+use tasks::{ByNumber, Draft};
 
 // Each task with its share, their sum, and the bound on the work that can stand at one instant.
 pub(crate) fn print_tasks(rt: &impl Print, draft: &Draft) -> io::Result<()> {
@@ -31,8 +31,8 @@ pub(crate) fn print_opening<R: Allowance + Drop>(
     match gate.open(draft, 0) {
         Ok(allowance) => println!(rt; "{name}: opens with the allowance {allowance}"),
         Err(refusal) => {
-            let number = refusal.number();
-            println!(rt; "{name}: refused by {number}, {refusal}")
+            let refusal = ByNumber(&refusal);
+            println!(rt; "{name}: refused by {refusal}")
         }
     }
 }

@@ -3,7 +3,7 @@ ghost use Rattle.arrivals.specs.Counter.{sound};
 ghost use Rattle.tasks.specs.Staircase.{staircase_of};
 
 use crate::counter::Counter;
-use tasks::Staircase;
+use tasks::{HasStaircase, Staircase};
 
 // A staircase with its counter, which keeps within it: a short counter has fewer tokens than the burst and is younger than
 // the step.
@@ -12,4 +12,12 @@ pub struct Bucket {
     pub staircase: Staircase,
     pub counter: Counter,
     ghost within: { sound (staircase_of staircase) counter ≡ true },
+}
+
+impl HasStaircase for Bucket {
+    ghost staircase = { λ bucket. staircase_of bucket.staircase };
+
+    fn staircase(&self) -> Staircase {
+        self.staircase
+    }
 }

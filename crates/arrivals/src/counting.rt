@@ -7,7 +7,7 @@ use crate::bucket::Bucket;
 use crate::counter::Event;
 use crate::counters::Counters;
 use bounded::Bounded;
-use tasks::Task;
+use tasks::{Task, longest};
 
 impl Counters {
     // The counters of a task that has had no arrival: all full.
@@ -34,27 +34,19 @@ impl Counters {
     pub fn long_bucket(&self) -> Bucket
         ensures { bucket_of result ≡ long_bucket (counters_of self.now) }
     {
-        let buckets = self.buckets.as_slice();
-        let mut longest = buckets[0];
-        for bucket in buckets {
-            if bucket.staircase.is_longer_than(longest.staircase) {
-                longest = *bucket;
-            }
-        }
-        longest
+        let [first, rest @ ..] = self.buckets.as_slice() else {
+            unreachable!();
+        };
+        longest(*first, rest)
     }
 
     // The number, counted from 1, of the first staircase that has no token.
     pub fn first_empty(&self) -> Option<u64>
         ensures { result ≡ first_empty 1 (counters_of self.now) }
     {
-        let buckets = self.buckets.as_slice();
-        for (i, bucket) in buckets.iter().enumerate() {
-            if !bucket.has_token() {
-                return Some(i as u64 + 1);
-            }
-        }
-        None
+        let mut buckets = self.buckets.as_slice().iter();
+        let empty = buckets.position(|bucket| !bucket.has_token());
+        empty.map(|i| i as u64 + 1)
     }
 
     // The event changes every counter.
@@ -69,14 +61,8 @@ impl Counters {
         ensures value { result ≡ arrivals_within instants (counters_of self.now) }
         ensures bound { result ≤ 8 + instants }
     {
-        let buckets = self.buckets.as_slice();
-        let [first, rest @ ..] = buckets else {
-            return 0;
-        };
-        let mut least = first.allows(instants);
-        for bucket in rest {
-            least = least.min(bucket.allows(instants));
-        }
-        least
+        let buckets = self.buckets.as_slice().iter();
+        let bounds = buckets.map(|bucket| bucket.allows(instants));
+        bounds.min().unwrap_or(0)
     }
 }

@@ -2,6 +2,7 @@
 #![tactic(auto)]
 
 mod bucket;
+mod clock;
 mod counter;
 mod counters;
 mod counting;
@@ -16,6 +17,7 @@ mod stepping;
 mod tests;
 
 pub use bucket::Bucket;
+pub use clock::LAST_READING;
 pub use counter::{Counter, Event};
 pub use counters::Counters;
 pub use monitor::Monitor;

@@ -5,14 +5,12 @@ ghost use Rattle.arrivals.specs.declared.counter.Event.TheVariants.{Arrival, Tic
 ghost use Rattle.tasks.specs.Reply.{reply};
 ghost use Rattle.tasks.specs.Task.{task_of};
 
+use crate::clock::LAST_READING;
 use crate::counter::Event;
 use crate::counters::Counters;
 use crate::monitor::Monitor;
 use crate::refusal::MonitorRefusal;
 use tasks::Task;
-
-// The last reading of a clock, which then does not move on.
-const LAST_READING: u64 = 1_000_000_000_000_000;
 
 impl Monitor {
     // Nothing has arrived yet, and the clock reads 0.

@@ -1,14 +1,13 @@
-// What a monitor, a bucket and a refusal tell of themselves.
+// What a monitor and a bucket tell of themselves.
 ghost use Rattle.std.specs.Prelude.{◌≡◌, ◌≤◌};
 ghost use Rattle.arrivals.specs.Bucket.{arrivals_within, bucket_of};
 ghost use Rattle.arrivals.specs.Counter.{age, tokens};
-ghost use Rattle.arrivals.specs.Monitor.{monitor_of, monitor_refusal};
+ghost use Rattle.arrivals.specs.Monitor.{monitor_of};
 ghost use Rattle.arrivals.specs.Continuations.{BoundsArrivals};
 
 use crate::bucket::Bucket;
 use crate::counter::Counter;
 use crate::monitor::Monitor;
-use crate::refusal::MonitorRefusal;
 
 impl Monitor {
     // The instant that the clock reads.
@@ -47,18 +46,6 @@ impl Bucket {
         match self.counter {
             Counter::Full => 0,
             Counter::Short { age, .. } => age,
-        }
-    }
-}
-
-impl MonitorRefusal {
-    // The number under which the manual lists the refusal.
-    pub fn number(&self) -> u64
-        ensures { result ≡ (monitor_refusal self.now).number }
-    {
-        match self {
-            MonitorRefusal::NoToken { .. } => 10,
-            MonitorRefusal::ClockAtEnd => 12,
         }
     }
 }

@@ -1,3 +1,5 @@
+ghost use Rattle.std.specs.Prelude.{◌≡◌, None};
+
 use crate::counter::Event;
 use crate::refusal::MonitorRefusal;
 
@@ -6,4 +8,16 @@ use crate::refusal::MonitorRefusal;
 pub struct Record {
     pub event: Event,
     pub answer: Option<Result<u64, MonitorRefusal>>,
+}
+
+// An event that has no answer yet.
+impl From<Event> for Record {
+    ghost from_gives = { λ event r. r ≡ record { event = event; answer = None } };
+
+    fn from(event: Event) -> Record {
+        Record {
+            event,
+            answer: None,
+        }
+    }
 }

@@ -1,4 +1,7 @@
+ghost use Rattle.arrivals.specs.Monitor.{monitor_refusal};
+
 use std::fmt;
+use tasks::Numbered;
 
 // Why a monitor does not serve an event.
 #[derive(Clone, Copy, PartialEq, Eq, Debug)]
@@ -7,6 +10,17 @@ pub enum MonitorRefusal {
     NoToken { staircase: u64 },
     // the clock shows its last reading
     ClockAtEnd,
+}
+
+impl Numbered for MonitorRefusal {
+    ghost shown = { monitor_refusal };
+
+    fn number(&self) -> u64 {
+        match self {
+            MonitorRefusal::NoToken { .. } => 10,
+            MonitorRefusal::ClockAtEnd => 12,
+        }
+    }
 }
 
 impl fmt::Display for MonitorRefusal {

@@ -52,10 +52,7 @@ impl Bucket {
     pub(crate) fn has_token(&self) -> bool
         ensures { result ≡ has_token (bucket_of self.now) }
     {
-        match self.counter {
-            Counter::Full => true,
-            Counter::Short { tokens, .. } => tokens > 0,
-        }
+        self.tokens() > 0
     }
 
     // The arrivals that this staircase still allows at the `instants` instants that begin now.
@@ -66,10 +63,7 @@ impl Bucket {
             return 0;
         }
         let later = u64::from(instants - 1);
-        match self.counter {
-            Counter::Full => self.staircase.burst + later / self.staircase.step,
-            Counter::Short { tokens, age } => tokens + (later + age) / self.staircase.step,
-        }
+        self.tokens() + (later + self.age()) / self.staircase.step
     }
 }
 

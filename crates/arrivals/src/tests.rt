@@ -4,7 +4,7 @@ use crate::observing::observe;
 use crate::record::Record;
 use crate::refusal::MonitorRefusal;
 use std::test::Fail;
-use tasks::Task;
+use tasks::{Numbered, Task};
 
 const NO_TOKEN: Result<u64, MonitorRefusal> = Err(MonitorRefusal::NoToken { staircase: 1 });
 

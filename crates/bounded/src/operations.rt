@@ -1,4 +1,4 @@
-ghost use Rattle.std.specs.Prelude.{◌≡◌, ◌+◌, ◌-◌, ◌<◌, ◌≤◌, [], map, length, nat_lt};
+ghost use Rattle.std.specs.Prelude.{◌≡◌, ◌+◌, ◌-◌, ◌<◌, ◌≤◌, [], ◌++◌, map, length, take, nat_lt, if◌then◌else◌, Ok, Err};
 ghost use Rattle.bounded.specs.List.{items, pushed};
 
 use crate::change::Change;
@@ -19,22 +19,29 @@ impl<T: Copy, const N: usize> Bounded<T, N> {
         ensures value { result.now ≡ items self.now }
         ensures bound { length result.now ≤ N }
     {
-        let n = self.len;
-        let all = &self.slots[..];
-        &all[0..n]
+        &self.slots[..self.len]
     }
 
-    // Adds an element at the end. A full list stays as it is, and the answer is false.
-    pub fn push(&mut self, element: T) -> bool
-        ensures answer { result ≡ nat_lt (length (items self.old)) N }
+    // Adds an element at the end. A full list stays as it is, and the element is handed back.
+    pub fn push(&mut self, element: T) -> Result<(), T>
+        ensures answer { result ≡ (if nat_lt (length (items self.old)) N then Ok tt else Err element) }
         ensures after { items self.new ≡ pushed N (items self.old) element }
     {
         if self.len >= N {
-            return false;
+            return Err(element);
         }
         self.slots[self.len] = element;
         self.len += 1;
-        true
+        Ok(())
+    }
+
+    // Adds these elements at the end, in their order, as far as there is room for them.
+    pub fn extend(&mut self, elements: &[T])
+        ensures { items self.new ≡ take N (items self.old ++ elements.now) }
+    {
+        for element in elements {
+            let _ = self.push(*element);
+        }
     }
 }
 
@@ -46,11 +53,8 @@ where
     pub fn change_each(&mut self, event: T::Event)
         ensures { map T.Change.view (items self.new) ≡ map (T.Change.after event) (map T.Change.view (items self.old)) }
     {
-        let n = self.len;
-        for i in 0..n {
-            let mut element = self.slots[i];
+        for element in &mut self.slots[..self.len] {
             element.change(event);
-            self.slots[i] = element;
         }
     }
 }

@@ -10,7 +10,7 @@ use Rattle.arrivals.specs.Bucket.{BucketModel, arrivals_within, bucket_allows, l
 use Rattle.arrivals.specs.Counter.{age, sound, tokens}
 use Rattle.arrivals.specs.declared.counter.Counter.{Counter}
 use Rattle.arrivals.specs.declared.counter.Counter.TheVariants.{Full, Short}
-use Rattle.tasks.proofs.Longest.{long_of}
+use Rattle.tasks.proofs.LongStaircase.{long_of}
 use Rattle.tasks.specs.Least.{least}
 use Rattle.tasks.specs.Staircase.{StaircaseModel, long_staircase, longer, longest, longest_by}
 use Rattle.tasks.specs.Task.{TaskModel, share}

@@ -6,57 +6,41 @@ ghost use Rattle.fit.specs.Horizon.{LongLengthsSuffice};
 ghost use Rattle.fit.specs.Keeps.{ArrivalKeepsFit, FitIsInTime, IdleFitsAsFresh, TickKeepsFit};
 
 // From a length on that goes by the present backlog, every length is itself enough.
-pub fn long_lengths_suffice_stands() -> u8
+pub fn long_lengths_suffice_stands()
     ensures { LongLengthsSuffice }
-{
-    0
-}
+{}
 
 // The searches up to 16K decide what asks for every length: no length above decides.
-pub fn horizon_decides_stands() -> u8
+pub fn horizon_decides_stands()
     ensures { HorizonDecides }
-{
-    0
-}
+{}
 
 // Every task fits exactly if each fits behind the tasks of the lanes before it.
-pub fn all_fit_behind_stands() -> u8
+pub fn all_fit_behind_stands()
     ensures { AllFitBehind }
-{
-    0
-}
+{}
 
 // The fresh allowance does not depend on the reading of the clock.
-pub fn fresh_at_any_reading_stands() -> u8
+pub fn fresh_at_any_reading_stands()
     ensures { FreshAtAnyReading }
-{
-    0
-}
+{}
 
 // An admitted arrival keeps the fit of its own task and of those behind it.
-pub fn arrival_keeps_fit_stands() -> u8
+pub fn arrival_keeps_fit_stands()
     ensures { ArrivalKeepsFit }
-{
-    0
-}
+{}
 
 // A tick keeps the fit of a task if a background job runs, a task before it, or the task itself.
-pub fn tick_keeps_fit_stands() -> u8
+pub fn tick_keeps_fit_stands()
     ensures { TickKeepsFit }
-{
-    0
-}
+{}
 
 // A task with nothing pending, behind tasks with nothing pending, fits as when fresh.
-pub fn idle_fits_as_fresh_stands() -> u8
+pub fn idle_fits_as_fresh_stands()
     ensures { IdleFitsAsFresh }
-{
-    0
-}
+{}
 
 // A task that fits has no pending job at or past its due clock.
-pub fn fit_is_in_time_stands() -> u8
+pub fn fit_is_in_time_stands()
     ensures { FitIsInTime }
-{
-    0
-}
+{}

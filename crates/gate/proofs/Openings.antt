@@ -1,8 +1,9 @@
 -- What the answer to opening says, test by test.
-use Rattle.std.proofs.Common.{◌≡◌, ℕ, zero, suc, ◌<◌, ◌≤◌, Bool, true, false, cond, ◌&&◌, eqb, ltb, leb, List, [], ◌∷◌, map, length, Some, None, Option, sym, refl, ap, ◌∙◌, subst, arith}
+use Rattle.std.proofs.Common.{◌≡◌, ℕ, zero, suc, ◌<◌, ◌≤◌, Bool, true, false, cond, eqb, ltb, List, [], ◌∷◌, map, length, Some, None, Option, Ok, Err, Result, sym, refl, ap, ◌∙◌, subst, arith}
 use Rattle.std.proofs.lemmas.List.{length-map}
-use Rattle.std.proofs.lemmas.Bool.{and_parts, cond_both, cond-false, cond-true, le-ltb, leb-true, lt-ltb, ltb-false}
+use Rattle.std.proofs.lemmas.Bool.{cond_both, cond-false, cond-true, le-ltb, ltb-false}
 use Rattle.std.specs.List.{AllByRecursion}
+use Rattle.std.specs.Result.{IsErrAnd}
 use Rattle.arrivals.specs.Clock.{last_reading}
 use Rattle.fit.proofs.FirstMisfit.{search_finds}
 use Rattle.fit.proofs.Fresh.{fresh_well_formed, tasks_fresh_formed}
@@ -13,7 +14,7 @@ use Rattle.fit.specs.WellFormed.{LaneFormed, TaskFormed}
 use Rattle.fit.specs.State.{StateModel, fresh_state, none}
 use Rattle.lanes.proofs.Fresh.{tasks_of_fresh}
 use Rattle.lanes.specs.Lane.{fresh_lane}
-use Rattle.tasks.specs.Reply.{Refusal, Reply, plain, refused, served, then}
+use Rattle.tasks.specs.Reply.{Refusal, Reply, plain, refused, reply, served, then}
 use Rattle.state.specs.State.{opened}
 use Rattle.state.proofs.Idle.{none_by_length}
 use Rattle.tasks.specs.Task.{TaskModel, task_of}
@@ -22,6 +23,7 @@ use Rattle.tasks.specs.TaskSet.{shares}
 use Rattle.gate.specs.Opening.{allowed, open_answer, unless_misfit}
 use Rattle.gate.specs.OpensRightly.{OpensRightly}
 use Rattle.gate.specs.OpenRefusal.{open_refusal}
+use Rattle.gate.specs.declared.refusal.OpenRefusal.{OpenRefusal}
 use Rattle.gate.specs.declared.refusal.OpenRefusal.TheVariants.{Misfit, NoTask, ReadingTooLate, SharesTooLarge}
 
 -- the refusal of an answer, where it is one
@@ -97,40 +99,55 @@ module _ (reading : ℕ) (ts : List TaskModel) (ok : AllByRecursion TaskFormed t
       let readable : reading ≤ last_reading = ltb-false last_reading reading early in
       weighed small readable (first_misfit reading 0 (map fresh_lane ts)) (meaning (fresh_state reading ts)) (found small readable))))
 
--- a state that was made is the freshly opened one, and the tests before it were passed
-made_opened : (b : Bool) (s fresh : StateModel) → Some s ≡ cond b (Some fresh) None → (b ≡ true) × (s ≡ fresh)
-made_opened true s fresh e = (refl, cc)
-made_opened false s fresh e = let z : ◌≡◌ {A = ℕ} 0 1 = cc in absurd (omega arith)
+-- Two tests, the first of which refuses with p and the second with q, before a state is served and before what comes after.
+module _ (p q : Refusal) (fresh : StateModel) (after : Reply ℕ) where
+  abbrev made : Bool → Bool → Reply StateModel
+  made late heavy = cond late (refused p) (cond heavy (refused q) (served fresh))
+
+  abbrev answered : Bool → Bool → Reply ℕ
+  answered late heavy = cond late (refused p) (cond heavy (refused q) after)
+
+  made_then : (late heavy : Bool) (s : StateModel) → served s ≡ made late heavy → (answered late heavy ≡ after) × (s ≡ fresh)
+  made_then true heavy s e = let z : ◌≡◌ {A = ℕ} 0 1 = cc in absurd (omega arith)
+  made_then false true s e = let z : ◌≡◌ {A = ℕ} 0 1 = cc in absurd (omega arith)
+  made_then false false s e = (refl, cc)
+
+  not_made_then : (late heavy : Bool) (r : Refusal) → refused r ≡ made late heavy → answered late heavy ≡ refused r
+  not_made_then true heavy r e = let same : r ≡ p = cc in ap refused (sym same)
+  not_made_then false true r e = let same : r ≡ q = cc in ap refused (sym same)
+  not_made_then false false r e = let z : ◌≡◌ {A = ℕ} 0 1 = cc in absurd (omega arith)
 
 -- the answer once a test is known
 module _ (meaning : StateModel → ℕ) (reading : ℕ) (ts : List TaskModel) where
   pub no_task : none ts ≡ true → open_answer meaning reading ts ≡ refused (open_refusal NoTask)
   no_task e = cond-true (none ts) _ _ e
 
-  pub too_late : none ts ≡ false → last_reading < reading → open_answer meaning reading ts ≡ refused (open_refusal ReadingTooLate)
-  too_late e late = cond-false (none ts) _ _ e ∙ cond-true (ltb last_reading reading) _ _ (lt-ltb last_reading reading late)
+  abbrev pub weighing : Reply ℕ
+  weighing = unless_misfit (first_misfit reading 0 (map fresh_lane ts)) (allowed (meaning (fresh_state reading ts)))
 
-  pub too_heavy : none ts ≡ false → reading ≤ last_reading → 960 < shares ts → open_answer meaning reading ts ≡ refused (open_refusal SharesTooLarge)
-  too_heavy e early heavy =
-      cond-false (none ts) _ _ e ∙ cond-false (ltb last_reading reading) _ _ (le-ltb last_reading reading early) ∙ cond-true (ltb 960 (shares ts)) _ _ (lt-ltb 960 (shares ts) heavy)
+  pub then_weighed : none ts ≡ false → reading ≤ last_reading → shares ts ≤ 960 → open_answer meaning reading ts ≡ weighing
+  then_weighed there early light =
+      cond-false (none ts) _ _ there ∙ cond-false (ltb last_reading reading) _ _ (le-ltb last_reading reading early) ∙ cond-false (ltb 960 (shares ts)) _ _ (le-ltb 960 (shares ts) light)
 
-  pub then_weighed : none ts ≡ false → reading ≤ last_reading → shares ts ≤ 960
-      → open_answer meaning reading ts ≡ unless_misfit (first_misfit reading 0 (map fresh_lane ts)) (allowed (meaning (fresh_state reading ts)))
-  then_weighed e early light =
-      cond-false (none ts) _ _ e ∙ cond-false (ltb last_reading reading) _ _ (le-ltb last_reading reading early) ∙ cond-false (ltb 960 (shares ts)) _ _ (le-ltb 960 (shares ts) light)
+  -- there is no state to open with
+  pub then_refused : (r : Refusal) → none ts ≡ false → refused r ≡ opened reading ts → open_answer meaning reading ts ≡ refused r
+  then_refused r there e =
+      cond-false (none ts) _ _ there ∙ not_made_then (open_refusal ReadingTooLate) (open_refusal SharesTooLarge) (fresh_state reading ts) weighing (ltb last_reading reading) (ltb 960 (shares ts)) r e
 
--- the state is made, every task fits and the rule was asked
-pub then_allowed : (meaning : StateModel → ℕ) (reading n : ℕ) (ts : List TaskModel) (s : StateModel) → none ts ≡ false → Some s ≡ opened reading ts
-    → None ≡ first_misfit s.clock 0 s.lanes → n ≡ meaning s → (s ≡ fresh_state reading ts) × (open_answer meaning reading ts ≡ allowed n)
-then_allowed meaning reading n ts s there made fits asked =
-    let parts = made_opened (leb reading last_reading && leb (shares ts) 960) s (fresh_state reading ts) made in
-    let tests = and_parts (leb reading last_reading) (leb (shares ts) 960) parts.0 in
-    let none : first_misfit reading 0 (map fresh_lane ts) ≡ None = sym (fits ∙ ap (λ (u : StateModel). first_misfit u.clock 0 u.lanes) parts.1) in (
-      parts.1,
-      then_weighed meaning reading ts there (leb-true reading last_reading tests.0) (leb-true (shares ts) 960 tests.1)
-          ∙ ap (λ o. unless_misfit o (allowed (meaning (fresh_state reading ts)))) none
-          ∙ ap allowed (sym (asked ∙ ap meaning parts.1)),
-    )
+  -- the state is made, every task fits and the rule was asked
+  pub then_allowed : (n : ℕ) (s : StateModel) → none ts ≡ false → served s ≡ opened reading ts → None ≡ first_misfit s.clock 0 s.lanes → n ≡ meaning s
+      → (s ≡ fresh_state reading ts) × (open_answer meaning reading ts ≡ allowed n)
+  then_allowed n s there e fits asked =
+      let parts = made_then (open_refusal ReadingTooLate) (open_refusal SharesTooLarge) (fresh_state reading ts) weighing (ltb last_reading reading) (ltb 960 (shares ts)) s e in
+      let none_misfit : first_misfit reading 0 (map fresh_lane ts) ≡ None = sym (fits ∙ ap (λ (u : StateModel). first_misfit u.clock 0 u.lanes) parts.1) in (
+        parts.1,
+        cond-false (none ts) _ _ there ∙ parts.0 ∙ ap (λ o. unless_misfit o (allowed (meaning (fresh_state reading ts)))) none_misfit ∙ ap allowed (sym (asked ∙ ap meaning parts.1)),
+      )
+
+-- a refusal that is passed on keeps its number and its values
+pub refused_on : {T A : Type 0} (view : T → A) (r : Refusal) (o : Result T OpenRefusal) → IsErrAnd o (λ e. open_refusal e ≡ r) → reply view open_refusal o ≡ refused r
+refused_on view r (Ok x) h = absurd h
+refused_on view r (Err e) h = ap refused h
 
 -- whether there are tasks, as the code asks
 pub tasks_there : (xs : List Task) (ts : List TaskModel) (b : Bool) → map task_of xs ≡ ts → b ≡ eqb (length xs) 0 → none ts ≡ b

@@ -19,9 +19,6 @@ use rules::Allowance;
 use state::State;
 use tasks::Draft;
 
-// The last reading of a clock, which then does not move on.
-const LAST_READING: u64 = 1_000_000_000_000_000;
-
 impl<R: Allowance> Gate<R> {
     // A place for a gate under this rule. Until it is opened it is a gate without tasks or jobs whose clock shows its last
     // reading.
@@ -57,13 +54,7 @@ impl<R: Allowance> Gate<R> {
         if draft.tasks().is_empty() {
             return Err(OpenRefusal::NoTask);
         }
-        if reading > LAST_READING {
-            return Err(OpenRefusal::ReadingTooLate);
-        }
-        // the reading was looked at above, so only the shares can be in the way
-        let Some(state) = State::new(draft, reading) else {
-            return Err(OpenRefusal::SharesTooLarge);
-        };
+        let state = State::new(draft, reading)?;
         if let Some(task) = state.first_misfit(0) {
             return Err(OpenRefusal::Misfit { task });
         }

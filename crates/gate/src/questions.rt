@@ -1,10 +1,8 @@
-// What a gate and a refusal tell of themselves.
+// What a gate tells of itself.
 ghost use Rattle.std.specs.Prelude.{◌≡◌};
 ghost use Rattle.gate.specs.Gate.{gate_of};
-ghost use Rattle.gate.specs.OpenRefusal.{open_refusal};
 
 use crate::gate::Gate;
-use crate::refusal::OpenRefusal;
 use rules::Allowance;
 
 impl<R: Allowance> Gate<R> {
@@ -13,20 +11,5 @@ impl<R: Allowance> Gate<R> {
         ensures { result ≡ R.Allowance.meaning self.now.rule (gate_of self.now).state }
     {
         self.rule.allowance(&self.state)
-    }
-}
-
-impl OpenRefusal {
-    // The number under which the manual lists the refusal.
-    pub fn number(&self) -> u64
-        ensures { result ≡ (open_refusal self.now).number }
-    {
-        match self {
-            OpenRefusal::NoTask => 4,
-            OpenRefusal::ReadingTooLate => 5,
-            OpenRefusal::SharesTooLarge => 6,
-            OpenRefusal::Misfit { .. } => 7,
-            OpenRefusal::NothingAllowed => 8,
-        }
     }
 }

@@ -1,4 +1,10 @@
+ghost use Rattle.std.specs.Prelude.{◌≡◌};
+ghost use Rattle.gate.specs.OpenRefusal.{open_refusal};
+ghost use Rattle.state.specs.StateRefusal.{state_refusal};
+
+use state::StateRefusal;
 use std::fmt;
+use tasks::Numbered;
 
 // Why a gate is not opened.
 #[derive(Clone, Copy, PartialEq, Eq, Debug)]
@@ -13,6 +19,32 @@ pub enum OpenRefusal {
     Misfit { task: u64 },
     // the rule allows no background work
     NothingAllowed,
+}
+
+// A gate that has no state to open with says why as the state does.
+impl From<StateRefusal> for OpenRefusal {
+    ghost from_gives = { λ refusal result. open_refusal result ≡ state_refusal refusal };
+
+    fn from(refusal: StateRefusal) -> OpenRefusal {
+        match refusal {
+            StateRefusal::ReadingTooLate => OpenRefusal::ReadingTooLate,
+            StateRefusal::SharesTooLarge => OpenRefusal::SharesTooLarge,
+        }
+    }
+}
+
+impl Numbered for OpenRefusal {
+    ghost shown = { open_refusal };
+
+    fn number(&self) -> u64 {
+        match self {
+            OpenRefusal::NoTask => 4,
+            OpenRefusal::ReadingTooLate => 5,
+            OpenRefusal::SharesTooLarge => 6,
+            OpenRefusal::Misfit { .. } => 7,
+            OpenRefusal::NothingAllowed => 8,
+        }
+    }
 }
 
 impl fmt::Display for OpenRefusal {

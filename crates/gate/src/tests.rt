@@ -3,7 +3,7 @@ use crate::gate::Gate;
 use crate::refusal::OpenRefusal;
 use rules::{Allowance, Exact, Fixed, Line};
 use std::test::Fail;
-use tasks::Draft;
+use tasks::{Draft, Numbered};
 
 const LAST: u64 = 1_000_000_000_000_000;
 

@@ -66,11 +66,7 @@ impl Lane {
         ensures value { result ≡ backlog (lane_of self.now).pending }
         ensures bound { result ≤ 512 }
     {
-        let mut backlog = 0;
-        for job in self.pending.as_slice() {
-            backlog += job.remaining;
-        }
-        backlog
+        self.pending().iter().map(|job| job.remaining).sum()
     }
 
     // What remains of the pending jobs that are due within `length` ticks of the clock reading `clock`.
@@ -78,11 +74,8 @@ impl Lane {
         ensures value { result ≡ due_by (clock + length) (lane_of self.now).pending }
         ensures bound { result ≤ 512 }
     {
-        let mut work = 0;
-        for job in self.pending.as_slice() {
-            work += job.due_within(clock, length);
-        }
-        work
+        let jobs = self.pending().iter();
+        jobs.map(|job| job.due_within(clock, length)).sum()
     }
 
     // The work of the task that is due within `length` ticks of the clock reading `clock`, with the jobs that can still arrive.

@@ -2,7 +2,7 @@
 use arrivals::{Event, Record};
 use std::io;
 use std::io::Write;
-use tasks::{Draft, Staircase};
+use tasks::{ByNumber, Draft, Staircase};
 use text::write_table;
 
 // More than the longest table has.
@@ -25,9 +25,7 @@ pub(crate) fn print_tasks(rt: &impl Print, draft: &Draft) -> io::Result<()> {
 
 fn print_staircases(rt: &impl Print, staircases: &[Staircase]) -> io::Result<()> {
     for staircase in staircases {
-        let burst = staircase.burst;
-        let step = staircase.step;
-        print!(rt; " {burst}/{step}")?;
+        print!(rt; " {staircase}")?;
     }
     Ok(())
 }
@@ -45,8 +43,8 @@ pub(crate) fn print_arrivals(rt: &impl Print, records: &[Record]) -> io::Result<
                 Event::Tick => clock = number,
             },
             Err(refusal) => {
-                let number = refusal.number();
-                println!(rt; "at {clock}: refused by {number}, {refusal}")?;
+                let refusal = ByNumber(&refusal);
+                println!(rt; "at {clock}: refused by {refusal}")?;
             }
         }
     }

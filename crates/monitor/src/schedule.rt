@@ -11,10 +11,7 @@ fn wait(records: &mut Vec<Record>, ticks: u64) -> Result<(), AllocError>
     ensures { OnOk result (events records.new.items ≡ events records.old.items ++ replicate ticks Tick) }
 {
     for _ in 0..ticks {
-        records.push(Record {
-            event: Event::Tick,
-            answer: None,
-        })?;
+        records.push(Event::Tick.into())?;
     }
     Ok(())
 }
@@ -27,10 +24,7 @@ pub(crate) fn schedule(heap: Global, instants: &[u64]) -> Result<Vec<Record>, Al
     let mut clock = 0;
     for instant in instants {
         wait(&mut records, instant.saturating_sub(clock))?;
-        records.push(Record {
-            event: Event::Arrival,
-            answer: None,
-        })?;
+        records.push(Event::Arrival.into())?;
         clock = clock.max(*instant);
     }
     Ok(records)

@@ -1,12 +1,24 @@
--- Single jobs of a list of released jobs.
-use Rattle.std.proofs.Common.{◌≡◌, ℕ, zero, suc, ◌<◌, ◌≤◌, true, ◌&&◌, leb, List, [], ◌∷◌, length, get_or, arith}
+-- What remains of released jobs is bounded by the largest cost.
+use Rattle.std.proofs.Common.{◌≡◌, ◌*◌, ◌≤◌, true, ◌&&◌, leb, List, [], ◌∷◌, length, sum_by, refl, arith}
 use Rattle.std.proofs.lemmas.Bool.{and_parts, leb-true}
+use Rattle.std.proofs.lemmas.List.Sums.{sum_by-cons}
+use Rattle.bounded.specs.List.{items}
+use Rattle.fit.proofs.Formed.{few_items}
+use Rattle.fit.specs.State.{work_of}
 use Rattle.fit.specs.WellFormed.{costs_within}
 use Rattle.lanes.specs.declared.released.Released.{Released}
+use Rattle.state.specs.declared.state.State.{State}
 
--- each of them has at most the largest cost left
-pub at_most_1024 : (js : List Released) (i : ℕ) (d : Released) → costs_within js ≡ true → i < length js → (get_or js i d).remaining ≤ 1024
-at_most_1024 [] i d w h = absurd (omega arith)
-at_most_1024 (j ∷ js) zero d w h =
-    leb-true j.remaining 1024 (and_parts (leb 1 j.remaining) (leb j.remaining 1024) (and_parts (leb 1 j.remaining && leb j.remaining 1024) (costs_within js) w).0).1
-at_most_1024 (j ∷ js) (suc i) d w h = at_most_1024 js i d (and_parts (leb 1 j.remaining && leb j.remaining 1024) (costs_within js) w).1 (omega arith)
+work-le : (js : List Released) → costs_within js ≡ true → work_of js ≤ length js * 1024
+work-le [] w = omega arith
+work-le (j ∷ js) w =
+    let both = and_parts (leb 1 j.remaining && leb j.remaining 1024) (costs_within js) w in
+    omega (arith, leb-true j.remaining 1024 (and_parts (leb 1 j.remaining) (leb j.remaining 1024) both.0).1, work-le js both.1)
+
+pub sum_by_work : (js : List Released) → sum_by (λ j. j.remaining) js ≡ work_of js
+sum_by_work [] = refl
+sum_by_work (j ∷ js) = omega (arith, sum_by-cons (λ (k : Released). k.remaining) j js, sum_by_work js)
+
+-- at most 32 jobs are released
+pub released_work-le : (s : State) → work_of (items s.released) ≤ 32768
+released_work-le s = omega (arith, work-le (items s.released) s.costs, few_items s.released)

@@ -1,1 +1,2 @@
+pub mod StateRefusal
 pub mod State

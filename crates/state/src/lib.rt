@@ -5,7 +5,9 @@
 mod laws;
 mod making;
 mod questions;
+mod refusal;
 mod state;
 
 pub use laws::state_is_well_formed_stands;
+pub use refusal::StateRefusal;
 pub use state::State;

@@ -2,29 +2,29 @@
 ghost use Rattle.std.specs.Prelude.{◌≡◌, []};
 ghost use Rattle.arrivals.specs.Clock.{last_reading};
 ghost use Rattle.fit.specs.State.{fresh_state};
-ghost use Rattle.state.specs.State.{opened, state_made, state_of};
+ghost use Rattle.state.specs.State.{opened, state_of};
+ghost use Rattle.state.specs.StateRefusal.{state_refusal};
+ghost use Rattle.tasks.specs.Reply.{reply};
 ghost use Rattle.tasks.specs.Draft.{draft_of};
 
+use crate::refusal::StateRefusal;
 use crate::state::State;
+use arrivals::LAST_READING;
 use bounded::Bounded;
 use lanes::{Lanes, Released};
 use search::exact_allowance;
 use tasks::Draft;
 
-// The last reading of a clock, which then does not move on.
-const LAST_READING: u64 = 1_000_000_000_000_000;
-
 impl State {
-    // The state of a draft's tasks before any arrival, where the clock reads `reading`; there is none for a reading past the
-    // last one, or where the shares sum to more than 960.
-    pub fn new(draft: &Draft, reading: u64) -> Option<State>
-        ensures { state_made result ≡ opened reading (draft_of draft.now) }
+    // The state of a draft's tasks before any arrival, where the clock reads `reading`.
+    pub fn new(draft: &Draft, reading: u64) -> Result<State, StateRefusal>
+        ensures { reply state_of state_refusal result ≡ opened reading (draft_of draft.now) }
     {
         if reading > LAST_READING {
-            return None;
+            return Err(StateRefusal::ReadingTooLate);
         }
-        let lanes = Lanes::new(draft)?;
-        Some(State {
+        let lanes = Lanes::new(draft).ok_or(StateRefusal::SharesTooLarge)?;
+        Ok(State {
             clock: reading,
             lanes,
             released: Bounded::new(Released {
@@ -40,9 +40,9 @@ impl State {
     pub fn empty() -> State
         ensures { state_of result ≡ fresh_state last_reading [] }
     {
-        match State::new(&Draft::new(), LAST_READING) {
-            Some(state) => state,
-            None => unreachable(),
-        }
+        let Ok(state) = State::new(&Draft::new(), LAST_READING) else {
+            unreachable!();
+        };
+        state
     }
 }

@@ -1,16 +1,15 @@
 // What a state tells of itself.
-ghost use Rattle.std.specs.Prelude.{◌≡◌, ◌≤◌, map, length};
+ghost use Rattle.std.specs.Prelude.{◌≡◌, ◌≤◌, length};
 ghost use Rattle.arrivals.specs.Clock.{last_reading};
 ghost use Rattle.fit.specs.Exact.{fresh_allowance_of};
 ghost use Rattle.fit.specs.Fit.{FirstMisfit};
 ghost use Rattle.fit.specs.Search.{first_misfit};
 ghost use Rattle.fit.specs.State.{idle, none_pending, pending_count, released_work, state_tasks};
-ghost use Rattle.lanes.specs.Lane.{lane_of};
 ghost use Rattle.lanes.specs.Lanes.{lanes_of};
 ghost use Rattle.state.specs.State.{state_of};
 
 use crate::state::State;
-use lanes::{Lane, Lanes, Released};
+use lanes::{Lanes, Released};
 
 impl State {
     // The instant that the clock reads.
@@ -57,11 +56,7 @@ impl State {
         ensures value { result ≡ released_work (state_of self.now) }
         ensures bound { result ≤ 32768 }
     {
-        let mut work = 0;
-        for job in self.released.as_slice() {
-            work += job.remaining;
-        }
-        work
+        self.released().iter().map(|job| job.remaining).sum()
     }
 
     // How many critical jobs are pending.
@@ -69,14 +64,23 @@ impl State {
         ensures value { result ≡ pending_count (state_of self.now).lanes }
         ensures bound { result ≤ 64 }
     {
-        count_pending(self.lanes.as_slice())
+        let lanes = self.lanes.as_slice().iter();
+        lanes.map(|lane| lane.pending().len() as u64).sum()
     }
 
     // Whether no critical job is pending and no background job released.
     pub fn is_idle(&self) -> bool
         ensures { result ≡ idle (state_of self.now) }
     {
-        none_pending(self.lanes.as_slice()) && self.released.as_slice().is_empty()
+        self.none_pending() && self.released().is_empty()
+    }
+
+    // Whether no critical job is pending.
+    fn none_pending(&self) -> bool
+        ensures { result ≡ none_pending (state_of self.now).lanes }
+    {
+        let mut lanes = self.lanes.as_slice().iter();
+        lanes.all(|lane| lane.pending().is_empty())
     }
 
     // The number, counted from 1, of the first task that does not fit with the amount.
@@ -86,29 +90,4 @@ impl State {
     {
         search::first_misfit(&self.lanes, self.clock, amount)
     }
-}
-
-// How many jobs are pending in these lanes.
-fn count_pending(lanes: &[Lane]) -> u64
-    requires { length lanes.now ≤ 8 }
-    ensures value { result ≡ pending_count (map lane_of lanes.now) }
-    ensures bound { result ≤ 64 }
-{
-    let mut count = 0;
-    for lane in lanes {
-        count += lane.pending().len() as u64;
-    }
-    count
-}
-
-// Whether no job is pending in these lanes.
-fn none_pending(lanes: &[Lane]) -> bool
-    ensures { result ≡ none_pending (map lane_of lanes.now) }
-{
-    for lane in lanes {
-        if !lane.pending().is_empty() {
-            return false;
-        }
-    }
-    true
 }

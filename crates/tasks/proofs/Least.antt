@@ -1,6 +1,7 @@
 -- The least over a list, as a loop finds it and as inductions use it.
-use Rattle.std.proofs.Common.{◌≡◌, ℕ, ◌-◌, ◌<◌, ◌≤◌, min, List, [], ◌∷◌, map, length, get_or, take, drop, fold, sym, refl, ap, ◌∙◌, arith}
+use Rattle.std.proofs.Common.{◌≡◌, ℕ, ◌-◌, ◌<◌, ◌≤◌, min, List, [], ◌∷◌, map, length, get_or, take, drop, fold, unwrap_or, Option, sym, refl, ap, ◌∙◌, arith}
 use Rattle.std.proofs.lemmas.List.{take_all}
+use Rattle.std.specs.List.{reduce}
 use Rattle.tasks.specs.Least.{least}
 
 -- a loop that began at a finds the smaller one of a and the least of what it went through
@@ -31,3 +32,16 @@ least_found f g (y ∷ ys) x m i h r e n =
 pub least_none : {A B : Type 0} (f : B → ℕ) (g : A → B) (xs : List A) → length xs < 1 → 0 ≡ least f (map g xs)
 least_none f g [] h = refl
 least_none f g (x ∷ xs) h = absurd (omega arith)
+
+folded_least : {A : Type 0} (f : A → ℕ) (a : ℕ) (x : A) (xs : List A) → fold min a (map f (x ∷ xs)) ≡ min a (least f (x ∷ xs))
+folded_least f a x [] = refl
+folded_least f a x (y ∷ ys) = folded_least f (min a (f x)) y ys ∙ omega arith
+
+reduced_least : {A : Type 0} (f : A → ℕ) (xs : List A) → unwrap_or (reduce min (map f xs)) 0 ≡ least f xs
+reduced_least f [] = refl
+reduced_least f (x ∷ []) = refl
+reduced_least f (x ∷ y ∷ ys) = folded_least f (f x) y ys
+
+-- what `min` answers of what f gives of the view of each element
+pub least_from_min : {A B : Type 0} (f : B → ℕ) (g : A → B) (xs : List A) (o : Option ℕ) → o ≡ reduce min (map (λ x. f (g x)) xs) → unwrap_or o 0 ≡ least f (map g xs)
+least_from_min f g xs o e = ap (λ p. unwrap_or p 0) e ∙ reduced_least (λ x. f (g x)) xs ∙ sym (least_map f g xs)

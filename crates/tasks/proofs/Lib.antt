@@ -1,5 +1,6 @@
 pub mod Entries
 pub mod Least
 pub mod Lists
-pub mod Longest
+pub mod LongStaircase
 pub mod Sums
+pub mod Ranges

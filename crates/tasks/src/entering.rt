@@ -16,7 +16,7 @@ impl Draft {
         ensures { draft_of result ≡ [] }
     {
         Draft {
-            tasks: Bounded::new(filling()),
+            tasks: Bounded::new(Task::smallest()),
         }
     }
 
@@ -61,9 +61,4 @@ impl Draft {
         let _ = self.tasks.push(task);
         Ok(count as u64 + 1)
     }
-}
-
-// Any task: it fills the places of a draft that hold none.
-fn filling() -> Task {
-    Task::smallest()
 }

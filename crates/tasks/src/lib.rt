@@ -3,6 +3,7 @@
 
 mod draft;
 mod entering;
+mod length;
 mod making;
 mod questions;
 mod refusal;
@@ -13,6 +14,7 @@ mod tests;
 mod totals;
 
 pub use draft::Draft;
-pub use refusal::{EntryRefusal, Quantity};
+pub use length::{HasStaircase, longest};
+pub use refusal::{ByNumber, EntryRefusal, Numbered, Quantity};
 pub use staircase::Staircase;
 pub use task::Task;

@@ -1,5 +1,5 @@
 use crate::draft::Draft;
-use crate::refusal::{EntryRefusal, Quantity};
+use crate::refusal::{EntryRefusal, Numbered, Quantity};
 use crate::task::Task;
 use std::test::Fail;
 

@@ -13,11 +13,7 @@ impl Draft {
         ensures value { result ≡ shares (draft_of self.now) }
         ensures bound { result ≤ 524288 }
     {
-        let mut shares = 0;
-        for task in self.tasks.as_slice() {
-            shares += task.share();
-        }
-        shares
+        self.tasks().iter().map(|task| task.share()).sum()
     }
 
     // A bound on the work that can stand at one instant: 1,024 ticks of background work and, for each task, eight pending jobs and
@@ -26,11 +22,8 @@ impl Draft {
         ensures value { result ≡ peak_work (draft_of self.now) }
         ensures bound { result ≤ 9216 }
     {
-        let mut work = 1024;
-        for task in self.tasks.as_slice() {
-            work += task.peak_work();
-        }
-        work
+        let work: u64 = self.tasks().iter().map(|task| task.peak_work()).sum();
+        1024 + work
     }
 }
 

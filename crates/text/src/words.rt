@@ -1,6 +1,7 @@
 // Faults and refusals in words.
 use crate::fault::{LineCause, LineFault, NumeralFault, TableFault, WriteRefusal};
 use std::fmt;
+use tasks::ByNumber;
 
 impl fmt::Display for NumeralFault {
     fn fmt<W: fmt::Write>(&self, f: &mut fmt::Formatter<W>) -> fmt::Result {
@@ -23,8 +24,8 @@ impl fmt::Display for LineCause {
             LineCause::Byte(place) => write!(f, "the form is broken at byte {place} of the line"),
             LineCause::Numeral(fault) => write!(f, "{fault}"),
             LineCause::Entry(refusal) => {
-                let number = refusal.number();
-                write!(f, "the entry is refused by {number}, {refusal}")
+                let refusal = ByNumber(refusal);
+                write!(f, "the entry is refused by {refusal}")
             }
         }
     }

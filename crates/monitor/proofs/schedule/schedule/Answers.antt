@@ -1,4 +1,4 @@
-use Rattle.std.proofs.Common.{◌++◌, replicate, vec_items, sym, refl, ap, ◌∙◌}
+use Rattle.std.proofs.Common.{◌++◌, replicate, vec_items, sym, ap, ◌∙◌, rules}
 use Rattle.std.proofs.lemmas.List.{append-nil, at_drop_all}
 use Rattle.arrivals.specs.Runs.{events}
 use Rattle.arrivals.specs.declared.counter.Event.TheVariants.{Tick}
@@ -12,7 +12,7 @@ loop-instant-preserved c =
     let i = c.loop-instant.instant-index in
     let before = vec_items c.loop-instant.records in
     let ticks = c.in_ok-wait.ensures ∙ ap (λ n. events before ++ replicate n Tick) c.saturating_sub.ensures in
-    arrived_more instants i c.loop-instant.clock c.max-clock.result 0 before (vec_items c.wait.new.records) _ _ c.loop-instant-test.true refl
+    arrived_more instants i c.loop-instant.clock c.max-clock.result 0 before (vec_items c.wait.new.records) _ c.into.result c.loop-instant-test.true (search rules)
     c.loop-instant.invariant ticks c.in_ok-push.ensures.items c.max-clock.ensures
 
 pub returns : goal.returns

@@ -1,4 +1,4 @@
-use Rattle.std.proofs.Common.{◌≡◌, ◌++◌, replicate, vec_items, sym, refl, ap, ◌∙◌, arith}
+use Rattle.std.proofs.Common.{◌≡◌, ◌++◌, replicate, vec_items, sym, ap, ◌∙◌, arith, rules}
 use Rattle.std.proofs.lemmas.List.{append-nil}
 use Rattle.arrivals.specs.Runs.{events}
 use Rattle.arrivals.specs.declared.counter.Event.TheVariants.{Tick}
@@ -10,7 +10,7 @@ loop-init c = sym (append-nil (events (vec_items c.args.records.now)))
 
 pub loop-preserved : goal.loop-preserved
 loop-preserved c =
-    waited_more (events (vec_items c.args.records.now)) (vec_items c.loop.records) _ _ c.loop.counter refl c.loop.invariant c.in_ok-push.ensures.items
+    waited_more (events (vec_items c.args.records.now)) (vec_items c.loop.records) _ c.into.result c.loop.counter (search rules) c.loop.invariant c.in_ok-push.ensures.items
 
 pub returns : goal.returns
 returns c =

@@ -1,14 +1,15 @@
-use Rattle.std.proofs.Common.{◌-◌, rules}
-use Rattle.std.proofs.lemmas.List.Sums.{fold_more}
+use Rattle.std.proofs.Common.{◌≡◌, ◌-◌, map, min, sym, ◌∙◌, rules}
+use Rattle.std.specs.List.{reduce}
+use Rattle.std.proofs.lemmas.Iterator.{YieldsList-from_map, YieldsList-from_slice}
+use Rattle.std.proofs.lemmas.Iterator.Adapters.{option_map_id}
+use Rattle.std.proofs.lemmas.Iterator.Consumers.{min_from_yields_List}
 use Rattle.tasks.specs.Staircase.{allowed_in, staircase_of}
-use Rattle.tasks.proofs.Least.{least_found, least_none}
+use Rattle.tasks.proofs.Least.{least_from_min}
 use Rattle.tasks.proofs.making.pending_bound.Goals as goal
 
-pub returns-in_default : goal.returns-in_default
-returns-in_default c = least_none (allowed_in (c.args.deadline - 1)) staircase_of c.args.staircases.now (search rules)
-
-pub loop-staircase-preserved : goal.loop-staircase-preserved
-loop-staircase-preserved c = search (rules, fold_more)
-
 pub returns : goal.returns
-returns c = least_found (allowed_in (c.args.deadline - 1)) staircase_of c.args.staircases.now c.first-item.result c.loop-staircase.least c.loop-staircase.staircase-index (search rules) c.first-item.is c.loop-staircase.invariant (search rules)
+returns c =
+    let ss = c.args.staircases.now in
+    let found : c.min.result ≡ reduce min (map (λ s. allowed_in (c.args.deadline - 1) (staircase_of s)) ss) =
+    sym (option_map_id _) ∙ min_from_yields_List _ _ c.min.ensures.ran (YieldsList-from_map _ _ (YieldsList-from_slice ss cc) c.map-bounds.ensures.closure (λ x r q k. search rules)) in
+    c.unwrap_or.ensures ∙ least_from_min (allowed_in (c.args.deadline - 1)) staircase_of ss c.min.result found

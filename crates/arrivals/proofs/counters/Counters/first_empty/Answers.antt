@@ -1,18 +1,18 @@
-use Rattle.std.proofs.Common.{map, sym, ap, ◌∙◌}
-use Rattle.arrivals.specs.Bucket.{bucket_of, first_empty}
-use Rattle.arrivals.proofs.Empty.{empty_here, none_empty, not_empty_here}
+use Rattle.std.proofs.Common.{◌≡◌, ◌+◌, not, map, option_map, ap, ◌∙◌, rules}
+use Rattle.std.proofs.Common.{tests}
+use Rattle.std.specs.List.{position_from}
+use Rattle.std.proofs.lemmas.Iterator.{YieldsList-from_slice}
+use Rattle.std.proofs.lemmas.Iterator.Adapters.{position_from-zero}
+use Rattle.std.proofs.lemmas.Iterator.Search.{position_from_yields_List}
+use Rattle.arrivals.specs.Bucket.{bucket_of, first_empty, has_token}
+use Rattle.arrivals.proofs.Empty.{first_empty_is}
 use Rattle.arrivals.proofs.counters.Counters.first_empty.Goals as goal
-
-pub returns-then-not-has_token : goal.returns-then-not-has_token
-returns-then-not-has_token c =
-    empty_here bucket_of c.as_slice-buckets.result.now c.loop-i.i c.loop-i.invariant c.index-buckets-i.result c.loop-i-test.true c.index-buckets-i.is (sym c.if-not-has_token.ensures)
-    ∙ ap (λ bs. first_empty 1 (map bucket_of bs)) c.as_slice-buckets.ensures.value
-
-pub loop-i-preserved : goal.loop-i-preserved
-loop-i-preserved c =
-    not_empty_here bucket_of c.as_slice-buckets.result.now c.loop-i.i c.loop-i.invariant c.index-buckets-i.result c.loop-i-test.true c.index-buckets-i.is (sym c.if-not-has_token.ensures)
 
 pub returns : goal.returns
 returns c =
-    none_empty bucket_of c.as_slice-buckets.result.now c.loop-i.i c.loop-i.invariant c.loop-i-test.false
-    ∙ ap (λ bs. first_empty 1 (map bucket_of bs)) c.as_slice-buckets.ensures.value
+    let bs = c.as_slice.result.now in
+    let found : c.position-empty.result ≡ position_from (λ b. not (has_token (bucket_of b))) 0 bs =
+    position_from_yields_List (λ b. not (has_token (bucket_of b))) _ _ c.position-empty.result c.position-empty.ensures.ran (YieldsList-from_slice bs cc) (λ x b q k. search (rules, tests))
+    ∙ position_from-zero (λ b. not (has_token (bucket_of b))) bs in
+    let counted : c.map.result ≡ option_map (λ i. i + 1) c.position-empty.result = search rules in
+    counted ∙ ap (option_map (λ i. i + 1)) found ∙ first_empty_is bucket_of 0 bs ∙ ap (λ list. first_empty 1 (map bucket_of list)) c.as_slice.ensures.value

@@ -1,9 +1,7 @@
 use Rattle.std.proofs.Common.{◌≡◌, ◌++◌, map, take, drop}
-use Rattle.bounded.specs.List.{items}
 use Rattle.bounded.proofs.list.Bounded.change_each.Given as goal
 
-abbrev pub invariant-loop-i : goal.invariant-loop-i
-invariant-loop-i g l =
-    let old = map g.T.Change.view (items l.initial.self) in
-    (map g.T.Change.view (items l.self) ≡ map (g.T.Change.after l.event) (take l.i old) ++ drop l.i old)
-    × (l.self.len ≡ l.initial.self.len)
+abbrev pub invariant-loop-element : goal.invariant-loop-element
+invariant-loop-element g l =
+    let old = map g.T.Change.view l.initial.element-items in
+    map g.T.Change.view l.element-items ≡ map (g.T.Change.after l.event) (take l.element-index old) ++ drop l.element-index old

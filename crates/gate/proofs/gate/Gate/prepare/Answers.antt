@@ -4,7 +4,8 @@ use Rattle.state.specs.State.{state_of}
 use Rattle.tasks.specs.Draft.{draft_of}
 use Rattle.tasks.specs.Reply.{Reply, served, then}
 use Rattle.gate.specs.Opening.{allowed}
-use Rattle.gate.proofs.Openings.{allowed_above, no_task, tasks_there, then_allowed, too_late}
+use Rattle.gate.specs.Preparing.{preparation}
+use Rattle.gate.proofs.Openings.{allowed_above, no_task, refused_on, tasks_there, then_allowed, then_refused}
 use Rattle.gate.proofs.gate.Gate.prepare.Goals as goal
 
 -- as opening answers, with the fresh state beside the allowance
@@ -17,34 +18,31 @@ returns-then-is_empty g c =
     let meaning = g.R.Allowance.meaning c.args.self.now.rule in
     record { answer = sym (ap (beside (fresh_state c.args.reading ts)) (no_task meaning c.args.reading ts (tasks_there c.tasks.result.now ts true c.tasks.ensures.value c.if-is_empty.ensures))) }
 
-pub returns-then-reading-gt-LAST_READING : goal.returns-then-reading-gt-LAST_READING
-returns-then-reading-gt-LAST_READING g c =
+pub returns-in_err-state : goal.returns-in_err-state
+returns-in_err-state g c =
     let ts = draft_of c.args.draft.now in
     let meaning = g.R.Allowance.meaning c.args.self.now.rule in
-    record {
-      answer =
-          sym (ap (beside (fresh_state c.args.reading ts))
-          (too_late meaning c.args.reading ts (tasks_there c.tasks.result.now ts false c.tasks.ensures.value c.if-is_empty.ensures) c.if-reading-gt-LAST_READING.true));
-    }
+    let there = tasks_there c.tasks.result.now ts false c.tasks.ensures.value c.if-is_empty.ensures in
+    let found = then_refused meaning c.args.reading ts _ there c.in_err-state.ensures in
+    record { answer = refused_on preparation _ c.from_residual.result c.from_residual.ensures.1 ∙ sym (ap (beside (fresh_state c.args.reading ts)) found) }
 
 pub returns-then-allowance-eq0 : goal.returns-then-allowance-eq0
 returns-then-allowance-eq0 g c =
     let ts = draft_of c.args.draft.now in
-    let reading = c.args.reading in
+    let n = c.allowance-allowance.result in
     let meaning = g.R.Allowance.meaning c.args.self.now.rule in
-    let found = then_allowed meaning reading c.allowance-allowance.result ts (state_of c.in-Some.state) (tasks_there c.tasks.result.now ts false c.tasks.ensures.value c.if-is_empty.ensures)
-    c.in-Some.ensures c.in_default-first_misfit.ensures.value c.allowance-allowance.ensures.value in
-    record { answer = sym (ap (beside (fresh_state reading ts)) (found.1 ∙ ap allowed c.if-allowance-eq0.true)) }
+    let found = then_allowed meaning c.args.reading ts n (state_of c.in_ok-state.state) (tasks_there c.tasks.result.now ts false c.tasks.ensures.value c.if-is_empty.ensures)
+    c.in_ok-state.ensures c.in_default.ensures.value c.allowance-allowance.ensures.value in
+    record { answer = sym (ap (beside (fresh_state c.args.reading ts)) (found.1 ∙ ap allowed c.if-allowance-eq0.true)) }
 
 pub returns : goal.returns
 returns g c =
     let ts = draft_of c.args.draft.now in
-    let reading = c.args.reading in
     let n = c.allowance-allowance.result in
     let meaning = g.R.Allowance.meaning c.args.self.now.rule in
-    let found = then_allowed meaning reading n ts (state_of c.in-Some.state) (tasks_there c.tasks.result.now ts false c.tasks.ensures.value c.if-is_empty.ensures)
-    c.in-Some.ensures c.in_default-first_misfit.ensures.value c.allowance-allowance.ensures.value in
+    let found = then_allowed meaning c.args.reading ts n (state_of c.in_ok-state.state) (tasks_there c.tasks.result.now ts false c.tasks.ensures.value c.if-is_empty.ensures)
+    c.in_ok-state.ensures c.in_default.ensures.value c.allowance-allowance.ensures.value in
     record {
       answer =
-          ap (λ s. served (s, n)) found.0 ∙ sym (ap (beside (fresh_state reading ts)) (found.1 ∙ allowed_above n c.if-allowance-eq0.false));
+          ap (λ s. served (s, n)) found.0 ∙ sym (ap (beside (fresh_state c.args.reading ts)) (found.1 ∙ allowed_above n c.if-allowance-eq0.false));
     }

@@ -1,21 +1,23 @@
-use Rattle.std.proofs.Common.{map, refl, ap, ◌∙◌, arith}
-use Rattle.bounded.specs.List.{items}
+use Rattle.std.proofs.Common.{◌≡◌, ◌+◌, map, sum_by, refl, ap, ◌∙◌, arith, rules}
+use Rattle.std.proofs.iter.runs.Made.{chains}
 use Rattle.tasks.specs.Task.{task_of}
 use Rattle.tasks.specs.TaskSet.{peak_of, peak_of_tasks}
-use Rattle.tasks.proofs.Sums.{sum_all, sum_more}
+use Rattle.tasks.proofs.Ranges.{peak-le}
+use Rattle.tasks.proofs.Sums.{sum_by_total, total-le}
 use Rattle.tasks.proofs.draft.Draft.peak_work.Goals as goal
 
-pub loop-task-preserved : goal.loop-task-preserved
-loop-task-preserved c = (
-  sum_more (λ ts. peak_of_tasks (map task_of ts)) (λ t. peak_of (task_of t)) (λ t ts. refl) (items c.args.self.now.tasks) c.as_slice-task-items.result.now c.loop-task.task-index c.loop-task.work _
-      c.peak_work-work.result c.task-item.result c.as_slice-task-items.ensures.value c.loop-task-test.true (c.peak_work-work.ensures.value ∙ ap (λ t. peak_of (task_of t)) c.task-item.is) c.loop-task.invariant.0,
-  omega (arith, c.peak_work-work.ensures.bound, c.loop-task.invariant.1),
-)
+pub overflow_add-result : goal.overflow_add-result
+overflow_add-result c =
+    let tasks = c.tasks.result.now in
+    let found : c.sum-work.result ≡ sum_by (λ t. peak_of (task_of t)) tasks = search (rules, chains) in
+    omega (arith, found, sum_by_total task_of peak_of peak_of_tasks refl (λ t ts. refl) tasks, total-le task_of peak_of peak_of_tasks refl (λ t ts. refl) 1024 peak-le tasks, c.tasks.ensures.bound)
 
 pub returns : goal.returns
 returns c =
+    let tasks = c.tasks.result.now in
+    let found : c.sum-work.result ≡ sum_by (λ t. peak_of (task_of t)) tasks = search (rules, chains) in
+    let all : c.sum-work.result ≡ peak_of_tasks (map task_of tasks) = found ∙ sum_by_total task_of peak_of peak_of_tasks refl (λ t ts. refl) tasks in
     record {
-      value = sum_all (λ ts. peak_of_tasks (map task_of ts)) (λ t. peak_of (task_of t)) (λ t ts. refl) (items c.args.self.now.tasks) c.as_slice-task-items.result.now c.loop-task.task-index c.loop-task.work _
-          c.as_slice-task-items.ensures.value c.loop-task-test.false refl c.loop-task.invariant.0;
-      bound = omega (arith, c.loop-task.invariant.1, c.loop-task.auto.task-index-end, c.as_slice-task-items.ensures.bound);
+      value = ap (λ n. 1024 + n) (all ∙ ap peak_of_tasks c.tasks.ensures.value);
+      bound = omega (arith, all, total-le task_of peak_of peak_of_tasks refl (λ t ts. refl) 1024 peak-le tasks, c.tasks.ensures.bound);
     }

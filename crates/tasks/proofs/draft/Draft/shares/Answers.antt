@@ -1,21 +1,17 @@
-use Rattle.std.proofs.Common.{map, refl, ap, ◌∙◌, arith}
-use Rattle.bounded.specs.List.{items}
+use Rattle.std.proofs.Common.{◌≡◌, map, sum_by, refl, ap, ◌∙◌, arith, rules}
+use Rattle.std.proofs.iter.runs.Made.{chains}
 use Rattle.tasks.specs.Task.{share, task_of}
 use Rattle.tasks.specs.TaskSet.{shares}
-use Rattle.tasks.proofs.Sums.{sum_all, sum_more}
+use Rattle.tasks.proofs.Ranges.{share-le}
+use Rattle.tasks.proofs.Sums.{sum_by_total, total-le}
 use Rattle.tasks.proofs.draft.Draft.shares.Goals as goal
-
-pub loop-task-preserved : goal.loop-task-preserved
-loop-task-preserved c = (
-  sum_more (λ ts. shares (map task_of ts)) (λ t. share (task_of t)) (λ t ts. refl) (items c.args.self.now.tasks) c.as_slice-task-items.result.now c.loop-task.task-index c.loop-task.shares _
-      c.share-shares.result c.task-item.result c.as_slice-task-items.ensures.value c.loop-task-test.true (c.share-shares.ensures.value ∙ ap (λ t. share (task_of t)) c.task-item.is) c.loop-task.invariant.0,
-  omega (arith, c.share-shares.ensures.bound, c.loop-task.invariant.1),
-)
 
 pub returns : goal.returns
 returns c =
+    let tasks = c.tasks.result.now in
+    let found : c.sum.result ≡ sum_by (λ t. share (task_of t)) tasks = search (rules, chains) in
+    let all : c.sum.result ≡ shares (map task_of tasks) = found ∙ sum_by_total task_of share shares refl (λ t ts. refl) tasks in
     record {
-      value = sum_all (λ ts. shares (map task_of ts)) (λ t. share (task_of t)) (λ t ts. refl) (items c.args.self.now.tasks) c.as_slice-task-items.result.now c.loop-task.task-index c.loop-task.shares _
-          c.as_slice-task-items.ensures.value c.loop-task-test.false refl c.loop-task.invariant.0;
-      bound = omega (arith, c.loop-task.invariant.1, c.loop-task.auto.task-index-end, c.as_slice-task-items.ensures.bound);
+      value = all ∙ ap shares c.tasks.ensures.value;
+      bound = omega (arith, all, total-le task_of share shares refl (λ t ts. refl) 65536 share-le tasks, c.tasks.ensures.bound);
     }
