@@ -6,12 +6,9 @@ use tasks::{ByNumber, Draft};
 
 // Each task with its share, their sum, and the bound on the work that can stand at one instant.
 pub(crate) fn print_tasks(rt: &impl Print, draft: &Draft) -> io::Result<()> {
-    for (i, task) in draft.tasks().iter().enumerate() {
-        let number = i + 1;
-        let limit = task.limit;
-        let deadline = task.deadline;
+    for (number, task) in (1u64..).zip(draft.tasks()) {
         let share = task.share();
-        println!(rt; "task {number}: limit {limit}, deadline {deadline}, share {share}/1024")?;
+        println!(rt; "task {number}: {task}, share {share}/1024")?;
     }
     let shares = draft.shares();
     let work = draft.peak_work();

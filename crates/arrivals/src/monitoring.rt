@@ -49,6 +49,7 @@ impl Monitor {
         Ok(self.clock)
     }
 
+    // Brings the event, an arrival or a tick: a closure or a table of the two calls would say no more.
     pub(crate) fn serve(&mut self, event: Event) -> Result<u64, MonitorRefusal>
         ensures answer { reply (λ n. n) monitor_refusal result ≡ answer_to event (monitor_of self.old) }
         ensures left { monitor_of self.new ≡ after event (monitor_of self.old) }

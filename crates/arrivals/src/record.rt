@@ -3,7 +3,8 @@ ghost use Rattle.std.specs.Prelude.{◌≡◌, None};
 use crate::counter::Event;
 use crate::refusal::MonitorRefusal;
 
-// An event for a monitor, and the place for its answer: a due clock for an arrival, the new reading for a tick, or a refusal.
+// An event for a monitor, and the place for its answer: a due clock for an arrival, the new reading for a tick, or a refusal. An
+// Option of a Result: an event that was not brought yet has no answer at all.
 #[derive(Clone, Copy)]
 pub struct Record {
     pub event: Event,

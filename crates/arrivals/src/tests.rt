@@ -54,14 +54,8 @@ fn refusal_changes_no_counter(rt: HostRuntime) -> Result<(), Fail> {
 #[test]
 fn records_get_their_answers(rt: HostRuntime) -> Result<(), Fail> {
     let task = Task::new(3, 9, &[(1, 2), (2, 5)])?;
-    let arrival = Record {
-        event: Event::Arrival,
-        answer: None,
-    };
-    let tick = Record {
-        event: Event::Tick,
-        answer: None,
-    };
+    let arrival = Record::from(Event::Arrival);
+    let tick = Record::from(Event::Tick);
     let mut records = [arrival, tick, arrival, tick, arrival, tick, tick, arrival];
     let _ = observe(&task, &mut records);
     assert_eq!(rt; records[0].answer, Some(Ok(9)));

@@ -1,7 +1,7 @@
 ghost use Rattle.std.specs.Prelude.{◌≡◌};
 
 // A value that an event changes in place. A reader of the contracts sees the value by its `view`, and an event as a
-// function from views to views.
+// function from views to views. A trait and not a closure: the law says once, for all calls, what an event makes of a view.
 pub trait Change {
     type Event;
 

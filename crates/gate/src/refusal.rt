@@ -6,7 +6,7 @@ use state::StateRefusal;
 use std::fmt;
 use tasks::Numbered;
 
-// Why a gate is not opened.
+// Why a gate is not opened. The two refusals of a state stand among the others, so that a caller matches one enum.
 #[derive(Clone, Copy, PartialEq, Eq, Debug)]
 pub enum OpenRefusal {
     // the draft has no task
@@ -21,7 +21,7 @@ pub enum OpenRefusal {
     NothingAllowed,
 }
 
-// A gate that has no state to open with says why as the state does.
+// The refusals of a state are the gate's too, under the same numbers.
 impl From<StateRefusal> for OpenRefusal {
     ghost from_gives = { λ refusal result. open_refusal result ≡ state_refusal refusal };
 
@@ -51,8 +51,8 @@ impl fmt::Display for OpenRefusal {
     fn fmt<W: fmt::Write>(&self, f: &mut fmt::Formatter<W>) -> fmt::Result {
         match self {
             OpenRefusal::NoTask => write!(f, "there is no task"),
-            OpenRefusal::ReadingTooLate => write!(f, "the reading is above 10^15"),
-            OpenRefusal::SharesTooLarge => write!(f, "the shares sum to more than 960"),
+            OpenRefusal::ReadingTooLate => StateRefusal::ReadingTooLate.fmt(f),
+            OpenRefusal::SharesTooLarge => StateRefusal::SharesTooLarge.fmt(f),
             OpenRefusal::Misfit { task } => write!(
                 f,
                 "task {task} does not fit even without background work"

@@ -9,7 +9,8 @@ use arrivals::Counters;
 use bounded::Bounded;
 use tasks::Task;
 
-// A task with a counter for each of its staircases and its pending jobs, oldest first. No job has more ticks left than the
+// A task with a counter for each of its staircases and its pending jobs, oldest first. Task, counters and the fact that they belong
+// together stand in a monitor too: a struct of them would be one name more in every path to a task. No job has more ticks left than the
 // task's execution limit, and none has nothing left.
 #[derive(Clone, Copy)]
 pub struct Lane {

@@ -38,18 +38,18 @@ impl Lanes {
             return None;
         }
         Some(Lanes {
-            lanes: fresh_lanes(draft.tasks()),
+            lanes: fresh_lanes(draft),
         })
     }
 }
 
-// A lane for each of these tasks.
-fn fresh_lanes(tasks: &[Task]) -> Bounded<Lane, 8>
-    requires { length tasks.now ≤ 8 }
-    ensures { map lane_of (items result) ≡ map fresh_lane (map task_of tasks.now) }
+// A lane for each of the tasks of a draft.
+fn fresh_lanes(draft: &Draft) -> Bounded<Lane, 8>
+    ensures { map lane_of (items result) ≡ map fresh_lane (draft_of draft.now) }
 {
     let mut lanes = Bounded::new(Lane::new(&Task::smallest()));
-    for task in tasks {
+    // a loop: to collect, a list of fixed capacity would need a value for its empty slots too
+    for task in draft.tasks() {
         let _ = lanes.push(Lane::new(task));
     }
     lanes

@@ -78,7 +78,8 @@ impl Lane {
         jobs.map(|job| job.due_within(clock, length)).sum()
     }
 
-    // The work of the task that is due within `length` ticks of the clock reading `clock`, with the jobs that can still arrive.
+    // The work of the task that is due within `length` ticks of the clock reading `clock`, with the jobs that can still arrive. Two
+    // numbers and no struct: a search keeps the one and goes along the other.
     pub fn demand(&self, clock: u64, length: u32) -> u64
         ensures value { result ≡ demand clock (lane_of self.now) length }
         ensures bound { result ≤ 1024 + 64 * length }

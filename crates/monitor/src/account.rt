@@ -2,30 +2,18 @@
 use arrivals::{Event, Record};
 use std::io;
 use std::io::Write;
-use tasks::{ByNumber, Draft, Staircase};
-use text::write_table;
-
-// More than the longest table has.
-const BUFFER_SIZE: usize = 512;
+use tasks::{ByNumber, Draft};
+use text::{LONGEST_TABLE, write_table};
 
 pub(crate) fn print_tasks(rt: &impl Print, draft: &Draft) -> io::Result<()> {
-    for (i, task) in draft.tasks().iter().enumerate() {
-        let number = i + 1;
-        let limit = task.limit;
-        let deadline = task.deadline;
-        print!(rt; "task {number}: limit {limit}, deadline {deadline}, staircases")?;
-        print_staircases(rt, task.staircases.as_slice())?;
-        print!(rt; ", long staircase")?;
-        print_staircases(rt, &[task.long_staircase()])?;
+    for (number, task) in (1u64..).zip(draft.tasks()) {
+        print!(rt; "task {number}: {task}, staircases")?;
+        for staircase in task.staircases.as_slice() {
+            print!(rt; " {staircase}")?;
+        }
+        let longest = task.long_staircase();
         let share = task.share();
-        println!(rt; ", share {share}/1024")?;
-    }
-    Ok(())
-}
-
-fn print_staircases(rt: &impl Print, staircases: &[Staircase]) -> io::Result<()> {
-    for staircase in staircases {
-        print!(rt; " {staircase}")?;
+        println!(rt; ", long staircase {longest}, share {share}/1024")?;
     }
     Ok(())
 }
@@ -34,15 +22,11 @@ fn print_staircases(rt: &impl Print, staircases: &[Staircase]) -> io::Result<()>
 pub(crate) fn print_arrivals(rt: &impl Print, records: &[Record]) -> io::Result<()> {
     let mut clock = 0;
     for record in records {
-        let Some(answer) = record.answer else {
-            continue;
-        };
-        match answer {
-            Ok(number) => match record.event {
-                Event::Arrival => println!(rt; "at {clock}: taken, due {number}")?,
-                Event::Tick => clock = number,
-            },
-            Err(refusal) => {
+        match (record.event, record.answer) {
+            (_, None) => {}
+            (Event::Arrival, Some(Ok(due))) => println!(rt; "at {clock}: taken, due {due}")?,
+            (Event::Tick, Some(Ok(reading))) => clock = reading,
+            (_, Some(Err(refusal))) => {
                 let refusal = ByNumber(&refusal);
                 println!(rt; "at {clock}: refused by {refusal}")?;
             }
@@ -51,11 +35,11 @@ pub(crate) fn print_arrivals(rt: &impl Print, records: &[Record]) -> io::Result<
     Ok(())
 }
 
-// The table of the draft, as text.
+// The table of the draft, as text. The buffer lies in place, since the writer writes into its caller's bytes and allocates nothing.
 pub(crate) fn print_table(rt: &HostRuntime, draft: &Draft) -> anyhow::Result<()> {
-    let mut buffer = [0u8; BUFFER_SIZE];
+    let mut buffer = [0; LONGEST_TABLE];
     match write_table(draft, &mut buffer) {
-        Ok(length) => rt.stdout().write_all(&buffer[0..length])?,
+        Ok(length) => rt.stdout().write_all(&buffer[..length])?,
         Err(refusal) => println!(rt; "the table is not written: {refusal}")?,
     }
     Ok(())

@@ -6,10 +6,8 @@ mod schedule;
 
 use account::{print_arrivals, print_table, print_tasks};
 use arrivals::observe;
+use input::read_draft;
 use schedule::schedule;
-use std::io::Read;
-use tasks::Draft;
-use text::{LONGEST_TEXT, read_table};
 
 // When the arrivals come.
 const INSTANTS: [u64; 6] = [0, 20, 40, 60, 90, 100];
@@ -19,16 +17,14 @@ fn main(rt: HostRuntime) -> anyhow::Result<()> {
 }
 
 fn run(rt: &HostRuntime) -> anyhow::Result<()> {
-    let mut bytes = Vec::new(rt.alloc());
-    // one byte more than a table may have, so that a longer one is refused and not cut off
-    rt.stdin()
-        .take(LONGEST_TEXT as u64 + 1)
-        .read_to_end(&mut bytes)?;
-    let mut draft = Draft::new();
-    if let Err(fault) = read_table(&mut draft, bytes.as_slice()) {
-        println!(rt; "the table is refused: {fault}")?;
-        return Ok(());
-    }
+    // said in both programs: a function that takes the rest of them as a closure would be no plainer
+    let draft = match read_draft(rt.alloc(), rt.stdin())? {
+        Ok(draft) => draft,
+        Err(fault) => {
+            println!(rt; "the table is refused: {fault}")?;
+            return Ok(());
+        }
+    };
     print_tasks(rt, &draft)?;
     if let Some(task) = draft.tasks().first() {
         let mut records = schedule(rt.alloc(), &INSTANTS)?;

@@ -4,7 +4,6 @@ ghost use Rattle.state.specs.State.{state_of};
 ghost use Rattle.fit.proofs.RuleLaws.{exact_laws};
 
 use crate::allowance::Allowance;
-use search::exact_allowance;
 use state::State;
 
 // The greatest amount with which every task fits: it uses all that can be known, and takes the longest to find.
@@ -20,6 +19,6 @@ impl Allowance for Exact {
         ensures value { result ≡ exact (state_of state.now) }
         ensures greatest { ExactlyFits (state_of state.now).clock (state_of state.now).lanes result }
     {
-        exact_allowance(state.lanes(), state.clock())
+        state.snapshot().exact_allowance()
     }
 }

@@ -21,10 +21,6 @@ impl Allowance for Fixed {
         let work = state.released_work();
         let budget = state.fresh_allowance();
         let spent = state.granted();
-        if spent <= budget {
-            work + budget - spent
-        } else {
-            work
-        }
+        work + budget.saturating_sub(spent)
     }
 }

@@ -4,10 +4,10 @@ ghost use Rattle.state.specs.State.{state_of};
 ghost use Rattle.fit.proofs.RuleLaws.{line_laws};
 
 use crate::allowance::Allowance;
-use search::line_allowance;
 use state::State;
 
-// The greatest amount with which every task passes behind straight lines in place of the staircases of the tasks before it.
+// The greatest amount with which every task passes behind straight lines in place of the staircases of the tasks before it. A type
+// of its own beside `Exact`: a user names a rule by its type, and the two say of different things that they are the greatest.
 #[derive(Clone, Copy)]
 pub struct Line;
 
@@ -20,6 +20,6 @@ impl Allowance for Line {
         ensures value { result ≡ line (state_of state.now) }
         ensures greatest { LinePasses (state_of state.now).clock (state_of state.now).lanes result }
     {
-        line_allowance(state.lanes(), state.clock())
+        state.snapshot().line_allowance()
     }
 }

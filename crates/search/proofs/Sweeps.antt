@@ -1,101 +1,60 @@
--- A sweep over the lengths for one task, length by length.
-use Rattle.std.proofs.Common.{◌≡◌, ℕ, suc, ◌+◌, ◌-◌, ◌*◌, ◌<◌, ◌≤◌, min, max, Bool, true, false, cond, eqb, ◌↔◌, sym, refl, ap, ◌∙◌, subst, inl, inr, mul-le-mul_left, add-one, arith}
-use Rattle.std.proofs.lemmas.Bool.{cases_lt, eqb-true, leb-false, leb-true, or_cases, or_parts}
+-- The sweep for the greatest amount with which a task passes: what its loop over the lengths has found so far.
+use Rattle.std.proofs.Common.{◌≡◌, ℕ, suc, ◌+◌, ◌-◌, ◌*◌, ◌/◌, ◌<◌, ◌≤◌, min, max, cond, eqb, ◌↔◌, sym, ap, ◌∙◌, add-one, arith}
+use Rattle.std.proofs.lemmas.Bool.Decides.{nat_tests}
 use Rattle.fit.proofs.Sweeping.{slack_below, task_tells}
-use Rattle.fit.specs.Weighing.{Weighs, WeighsBelow}
-use Rattle.lanes.specs.Demand.{demand}
-use Rattle.lanes.specs.Lane.{lane_of}
+use Rattle.fit.specs.Weighing.{WeighsBelow}
 use Rattle.search.specs.Ahead.{ahead_at}
-use Rattle.search.specs.Sweep.{Begun, PassesUpTo, Reaches, decided, free_at, own_demand, suffices, swept, weighed}
-use Rattle.search.specs.declared.front.Front.{Front}
-use Rattle.search.specs.declared.sweep.Sweep.{Sweep}
+use Rattle.search.specs.Turn.{PassesUpTo, own_demand}
+use Rattle.search.specs.declared.turn.Turn.{Turn}
+use Rattle.search.proofs.Searches.{long_enough, weighs_more}
 
--- the sweep s began as b and has weighed the lengths below its own
-pub record Swept (b s : Sweep) : Type 0 where
-  pub clock : s.clock ≡ b.clock
-  pub lane : s.lane ≡ b.lane
-  pub ahead : s.ahead ≡ b.ahead
-  pub slack : s.slack ≡ slack_below (ahead_at b.ahead) s.length
-  pub top : s.margin ≤ b.margin
-  pub tells : (w : ℕ) → 0 < w → (w ≤ s.margin) ↔ ((w ≤ b.margin) × WeighsBelow s.length w (own_demand b) (ahead_at b.ahead))
+-- The sweep for a task with the demand d behind tasks that may ask A began with `most` and has come to the length Δ, with the slack t
+-- and the margin m.
+pub record Swept (most : ℕ) (d A : ℕ → ℕ) (Δ t m : ℕ) : Type 0 where
+  pub slack : t ≡ slack_below A Δ
+  pub top : m ≤ most
+  pub tells : (w : ℕ) → 0 < w → (w ≤ m) ↔ ((w ≤ most) × WeighsBelow Δ w d A)
 
--- at the beginning nothing was weighed
-pub swept_none : (b : Sweep) → Begun b → Swept b b
-swept_none b begun =
+-- one length more
+swept_more : {most : ℕ} {d A : ℕ → ℕ} {Δ t m : ℕ} → Swept most d A Δ t m → (u n : ℕ) → u ≡ max t ((1024 * Δ - A Δ) / 1024)
+    → n ≡ cond (eqb (d Δ) 0) m (min m (u - d Δ)) → n ≤ m → Swept most d A (Δ + 1) u n
+swept_more {most} {d} {A} {Δ} {t} {m} s u n grown left le =
+    let slack : u ≡ slack_below A (suc Δ) = grown ∙ ap (λ x. max x ((1024 * Δ - A Δ) / 1024)) s.slack in
+    let same : n ≡ cond (eqb (d Δ) 0) m (min m (slack_below A (suc Δ) - d Δ)) = left ∙ ap (λ x. cond (eqb (d Δ) 0) m (min m (x - d Δ))) slack in
     record {
-      clock = refl;
-      lane = refl;
-      ahead = refl;
-      slack = begun.slack ∙ ap (slack_below (ahead_at b.ahead)) (sym begun.length);
-      top = omega arith;
-      tells = λ w h. ((λ le. (le, (λ Δ lt k. absurd (omega (arith, begun.length))))), (λ r. r.0));
+      slack = slack ∙ ap (slack_below A) (sym (add-one Δ));
+      top = omega (arith, s.top);
+      tells = λ w h.
+          let here = task_tells A Δ (d Δ) m w h in
+          let before = s.tells w h in (
+            (λ le. let r = here.0 (omega (arith, same)) in let q = before.0 r.0 in (q.0, weighs_more w Δ d A q.1 r.1)),
+            (λ r. omega (arith, same, here.1 (before.1 (r.0, (λ x lt k. r.1 x (omega arith) k)), r.1 Δ (omega arith)))),
+          );
     }
 
--- the lengths below Δ and Δ itself are those below Δ + 1
-weighs_more : (w Δ : ℕ) (d A : ℕ → ℕ) → WeighsBelow Δ w d A → (0 < d Δ → (y : ℕ) × (y ≤ Δ) × (1024 * (w + d Δ) + A y ≤ 1024 * y)) → WeighsBelow (Δ + 1) w d A
-weighs_more w Δ d A below here x lt h =
-    elim (cases_lt x Δ) [
-      | inl k ↦ below x k h
-      | inr k ↦ let e : Δ ≡ x = omega arith in subst (λ (z : ℕ). 0 < d z → (y : ℕ) × (y ≤ z) × (1024 * (w + d z) + A y ≤ 1024 * y)) e here h
-    ]
-
--- one length more, with numbers in the place of the sweep's fields
-tells_more : (w Δ m n : ℕ) (d A : ℕ → ℕ) → 0 < w
-    → ((w ≤ n) ↔ ((w ≤ m) × WeighsBelow Δ w d A))
-    → (w ≤ weighed n (slack_below A (suc Δ)) (d Δ)) ↔ ((w ≤ m) × WeighsBelow (Δ + 1) w d A)
-tells_more w Δ m n d A h before =
-    let here = task_tells A Δ (d Δ) n w h in (
-      (λ le. let r = here.0 le in let q = before.0 r.0 in (q.0, weighs_more w Δ d A q.1 r.1)),
-      (λ r. here.1 (before.1 (r.0, (λ x lt k. r.1 x (omega arith) k)), r.1 Δ (omega arith))),
-    )
-
-weighed_at_most : (m s d : ℕ) → weighed m s d ≤ m
-weighed_at_most m s d = at_most (eqb d 0)
+-- where there is no demand the length does not decide
+pub swept_idle : {most : ℕ} {d A : ℕ → ℕ} {Δ t m : ℕ} → Swept most d A Δ t m → (u n : ℕ) → u ≡ max t ((1024 * Δ - A Δ) / 1024)
+    → d Δ ≡ 0 → n ≡ m → Swept most d A (Δ + 1) u n
+swept_idle {d} {Δ} {m} s u n grown none same =
+    swept_more s u n grown (same ∙ sym (idle m u (d Δ) none)) (omega arith)
   where
-    at_most : (t : Bool) → cond t m (min m (s - d)) ≤ m
-    at_most true = omega arith
-    at_most false = omega arith
+    idle : (m u d : ℕ) → d ≡ 0 → cond (eqb d 0) m (min m (u - d)) ≡ m
+    idle m u d h = grind (arith, nat_tests)
 
-pub swept_more : (b s : Sweep) → Swept b s → Swept b (swept s)
-swept_more b s w =
-    let A : ℕ → ℕ = ahead_at b.ahead in
-    let slack : max s.slack (free_at (ahead_at s.ahead) s.length) ≡ slack_below A (suc s.length) =
-    ap (λ x. max x (free_at (ahead_at s.ahead) s.length)) w.slack ∙ ap (λ a. max (slack_below A s.length) (free_at (ahead_at a) s.length)) w.ahead in
-    let d : own_demand s s.length ≡ own_demand b s.length =
-    ap (λ c. demand c (lane_of s.lane.now) s.length) w.clock ∙ ap (λ l. demand b.clock (lane_of l.now) s.length) w.lane in
-    let same : (swept s).margin ≡ weighed s.margin (slack_below A (suc s.length)) (own_demand b s.length) =
-    ap (λ x. weighed s.margin x (own_demand s s.length)) slack ∙ ap (weighed s.margin (slack_below A (suc s.length))) d in
-    record {
-      clock = w.clock;
-      lane = w.lane;
-      ahead = w.ahead;
-      slack = slack ∙ ap (slack_below A) (sym (add-one s.length));
-      top = omega (arith, w.top, same, weighed_at_most s.margin (slack_below A (suc s.length)) (own_demand b s.length));
-      tells = λ v h. subst (λ (m : ℕ). (v ≤ m) ↔ ((v ≤ b.margin) × WeighsBelow (s.length + 1) v (own_demand b) A)) (sym same)
-          (tells_more v s.length b.margin s.margin (own_demand b) A h (w.tells v h));
-    }
-
--- where nothing later decides, every length was weighed
-pub swept_all : (f : Front) (b s : Sweep) → Reaches f b → Swept b s → decided f s.length s.margin ≡ true → PassesUpTo b s.margin
-swept_all f b s reach w done v h =
-    let tells = w.tells v h in (
-      (λ le. ((tells.0 le).0, far le (tells.0 le).1)),
-      (λ r. tells.1 (r.0, (λ Δ lt k. r.1 Δ k))),
-    )
+pub swept_weighed : {most : ℕ} {d A : ℕ → ℕ} {Δ t m : ℕ} → Swept most d A Δ t m → (u n : ℕ) → u ≡ max t ((1024 * Δ - A Δ) / 1024)
+    → 0 < d Δ → n ≡ min m (u - d Δ) → Swept most d A (Δ + 1) u n
+swept_weighed {d} {Δ} {m} s u n grown some less =
+    swept_more s u n grown (less ∙ sym (weighed m u (d Δ) some)) (omega arith)
   where
-    far : v ≤ s.margin → WeighsBelow s.length v (own_demand b) (ahead_at b.ahead) → Weighs v (own_demand b) (ahead_at b.ahead)
-    far le below Δ k =
-        elim (cases_lt Δ s.length) [
-          | inl lt ↦ below Δ lt k
-          | inr ge ↦
-              elim (or_cases (eqb s.margin 0) (suffices f s.length s.margin) done) [
-                | inl e ↦ absurd (omega (arith, eqb-true s.margin 0 e))
-                | inr e ↦ (Δ, omega arith, reach.far s.margin s.length (leb-true (1024 * (s.margin + f.standing)) (s.length * (1024 - f.shares)) e) v Δ le ge)
-              ]
-        ]
+    weighed : (m u d : ℕ) → 0 < d → cond (eqb d 0) m (min m (u - d)) ≡ min m (u - d)
+    weighed m u d h = grind (arith, nat_tests)
 
--- a length at which it is not decided is short
-pub undecided_short : (f : Front) (Δ m : ℕ) → f.standing ≤ 8192 → f.shares ≤ 960 → m ≤ 1024 → decided f Δ m ≡ false → Δ < 147456
-undecided_short f Δ m hs ht hm e =
-    let early = leb-false (1024 * (m + f.standing)) (Δ * (1024 - f.shares)) (or_parts (eqb m 0) (suffices f Δ m) e).1 in
-    omega (arith, early, mul-le-mul_left {m = 64} {n = 1024 - f.shares} Δ (omega arith))
+-- nothing later decides
+pub swept_all : (turn : Turn) {most Δ t m : ℕ} → Swept most (own_demand turn) (ahead_at turn.ahead) Δ t m
+    → (0 < m → 1024 * (m + turn.front.standing) ≤ Δ * (1024 - turn.front.shares)) → PassesUpTo turn most m
+swept_all turn {most} {Δ} {t} {m} s far w h =
+    let tells = s.tells w h in
+    let enough = long_enough turn.front.standing turn.front.shares turn.front.light (own_demand turn) (ahead_at turn.ahead) turn.below m Δ w in (
+      (λ le. let r = tells.0 le in (r.0, enough (far (omega arith)) le r.1)),
+      (λ r. tells.1 (r.0, (λ x lt k. r.1 x k))),
+    )

@@ -10,18 +10,10 @@ use Rattle.lanes.specs.Lane.{LaneModel, tasks_of}
 use Rattle.lanes.specs.Line.{line_load}
 use Rattle.lanes.specs.Standing.{standing}
 use Rattle.tasks.specs.TaskSet.{shares}
-use Rattle.search.specs.Front.{empty_front, with_lane, with_lanes}
-use Rattle.search.specs.Weighing.{WeighsUpTo, asked_of, load_by}
-use Rattle.search.specs.declared.allowance.Bound.{Bound}
-use Rattle.search.specs.declared.allowance.Bound.TheVariants.{Line, Staircases}
-use Rattle.search.specs.declared.front.Front.{Front}
+use Rattle.search.specs.Front.{FrontModel, empty_front, with_lane, with_lanes}
+use Rattle.search.specs.Weighing.{asked_after}
 
--- what may be asked once the tasks of these lanes stand before, where A was asked already
-abbrev pub asked_after : (LaneModel → ℕ → ℕ) → (ℕ → ℕ) → List LaneModel → ℕ → ℕ
-asked_after ld A [] = A
-asked_after ld A (l ∷ ls) = asked_after ld (λ y. A y + ld l y) ls
-
-pub asked_more : (ld : LaneModel → ℕ → ℕ) (A : ℕ → ℕ) (ls : List LaneModel) (l : LaneModel)
+asked_more : (ld : LaneModel → ℕ → ℕ) (A : ℕ → ℕ) (ls : List LaneModel) (l : LaneModel)
     → asked_after ld A (ls ++ (l ∷ [])) ≡ (λ y. asked_after ld A ls y + ld l y)
 asked_more ld A [] l = refl
 asked_more ld A (k ∷ ls) l = asked_more ld (λ y. A y + ld k y) ls l
@@ -30,26 +22,27 @@ asked_same : (ld : LaneModel → ℕ → ℕ) (A B : ℕ → ℕ) (ls : List Lan
 asked_same ld A B [] y h = h y
 asked_same ld A B (l ∷ ls) y h = asked_same ld (λ z. A z + ld l z) (λ z. B z + ld l z) ls y (λ z. ap (λ n. n + ld l z) (h z))
 
--- by their staircases the tasks ask for their loads
-asked_by_staircases : (A : ℕ → ℕ) (ls : List LaneModel) (y : ℕ) → asked_after (λ l z. 1024 * load l z) A ls y ≡ A y + 1024 * ahead ls y
-asked_by_staircases A [] y = omega arith
-asked_by_staircases A (l ∷ ls) y = omega (arith, asked_by_staircases (λ z. A z + 1024 * load l z) ls y)
+loads_added : (A : ℕ → ℕ) (ls : List LaneModel) (y : ℕ) → asked_after (λ l z. 1024 * load l z) A ls y ≡ A y + 1024 * ahead ls y
+loads_added A [] y = omega arith
+loads_added A (l ∷ ls) y = omega (arith, loads_added (λ z. A z + 1024 * load l z) ls y)
 
--- by their lines they ask for one line, which begins where theirs begin together and rises by their shares
-asked_by_lines : (f : Front) (ls : List LaneModel) (y : ℕ)
+-- by their staircases the tasks ask for their loads
+pub asked_by_staircases : (ls : List LaneModel) (y : ℕ) → asked_after (λ l z. 1024 * load l z) (λ z. 0) ls y ≡ 1024 * ahead ls y
+asked_by_staircases ls y = omega (arith, loads_added (λ z. 0) ls y)
+
+lines_added : (f : FrontModel) (ls : List LaneModel) (y : ℕ)
     → (with_lanes f ls).start + (with_lanes f ls).shares * y ≡ asked_after line_load (λ z. f.start + f.shares * z) ls y
-asked_by_lines f [] y = refl
-asked_by_lines f (l ∷ ls) y =
-    asked_by_lines (with_lane f l) ls y
+lines_added f [] y = refl
+lines_added f (l ∷ ls) y =
+    lines_added (with_lane f l) ls y
     ∙ asked_same line_load (λ z. (with_lane f l).start + (with_lane f l).shares * z) (λ z. f.start + f.shares * z + line_load l z) ls y (λ z. omega arith)
 
--- what the code adds up is what the tasks before may ask
-pub asked_is : (b : Bound) (before : List LaneModel) (y : ℕ) → asked_of b before (with_lanes empty_front before) y ≡ asked_after (load_by b) (λ z. 0) before y
-asked_is Staircases before y = omega (arith, asked_by_staircases (λ z. 0) before y)
-asked_is Line before y =
-    omega (arith, asked_by_lines empty_front before y, asked_same line_load (λ z. empty_front.start + empty_front.shares * z) (λ z. 0) before y (λ z. omega arith))
+-- by their lines they ask for one line, which begins where theirs begin together and rises by their shares
+pub asked_by_lines : (ls : List LaneModel) (y : ℕ)
+    → (with_lanes empty_front ls).start + (with_lanes empty_front ls).shares * y ≡ asked_after line_load (λ z. 0) ls y
+asked_by_lines ls y = lines_added empty_front ls y ∙ asked_same line_load (λ z. empty_front.start + empty_front.shares * z) (λ z. 0) ls y (λ z. omega arith)
 
--- it lies below the straight line of what stands and of the shares
+-- what they ask lies below the straight line of what stands and of the shares
 pub asked_rated : (ld : LaneModel → ℕ → ℕ) → Rated ld → (A : ℕ → ℕ) (ls : List LaneModel) (y : ℕ) → AllByRecursion LaneFormed ls
     → asked_after ld A ls y ≤ A y + 1024 * standing ls + shares (tasks_of ls) * y
 asked_rated ld rated A [] y ok = omega arith
@@ -65,9 +58,6 @@ weighs_same w d A B h f Δ k =
 abbrev pub Left : (LaneModel → ℕ → ℕ) → ℕ → List LaneModel → ℕ → List LaneModel → List LaneModel → Type 0
 Left ld now all m before rest =
     (w : ℕ) → 0 < w → ((w ≤ m) × AllWeigh ld now w (asked_after ld (λ y. 0) before) rest) ↔ ((w ≤ 1024) × AllWeigh ld now w (λ y. 0) all)
-
-pub left_none : (ld : LaneModel → ℕ → ℕ) (now : ℕ) (all : List LaneModel) → Left ld now all 1024 [] all
-left_none ld now all w h = ((λ r. r), (λ r. r))
 
 -- one task more is weighed, behind what A tells that those before may ask
 pub left_more : (ld : LaneModel → ℕ → ℕ) (now m n : ℕ) (all before rest : List LaneModel) (l : LaneModel) (A : ℕ → ℕ)
@@ -86,7 +76,3 @@ left_more ld now m n all before rest l A same found left w h =
           let q = whole.1 r in
           (one.1 (q.0, weighs_same w (demand now l) B A (λ y. sym (same y)) q.1.0), subst (λ (C : ℕ → ℕ). AllWeigh ld now w C rest) (sym next) q.1.1)),
     )
-
--- all tasks were weighed
-pub left_all : (ld : LaneModel → ℕ → ℕ) (now m : ℕ) (all before : List LaneModel) → Left ld now all m before [] → WeighsUpTo ld now all m
-left_all ld now m all before left w h = ((λ le. (left w h).0 (le, tt)), (λ r. ((left w h).1 r).0))

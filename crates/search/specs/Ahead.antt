@@ -1,5 +1,5 @@
 -- What the tasks before a task may ask of the processor, in 1024ths of a tick.
-use Rattle.std.specs.Prelude.{ℕ, ◌+◌, ◌*◌, ◌≤◌, List, map, length}
+use Rattle.std.specs.Prelude.{ℕ, ◌+◌, ◌*◌, ◌<◌, ◌≤◌, List, map, Option, MatchOption}
 use Rattle.fit.specs.Fit.{ahead}
 use Rattle.lanes.specs.Lane.{LaneModel, lane_of}
 use Rattle.search.specs.declared.ahead.Ahead.{Ahead}
@@ -12,8 +12,11 @@ asked_by before start share y = 1024 * ahead before y + (start + share * y)
 abbrev pub ahead_at : Ahead → ℕ → ℕ
 ahead_at a y = asked_by (map lane_of a.before.now) a.start a.share y
 
--- there are at most eight tasks before, and their lines are no longer than those of eight tasks
-pub record Few (a : Ahead) : Type 0 where
-  pub before : length a.before.now ≤ 8
-  pub start : a.start ≤ 16777216
-  pub share : a.share ≤ 960
+-- no length from `from` on is enough for this work before the end, where the tasks before may ask A
+abbrev pub TooShort : ℕ → (ℕ → ℕ) → ℕ → ℕ → Type 0
+TooShort work A from end = (y : ℕ) → from ≤ y → y < end → 1024 * y < 1024 * work + A y
+
+-- the first length that is enough, of those from `from` to `to`
+abbrev pub FirstEnough : ℕ → (ℕ → ℕ) → ℕ → ℕ → Option ℕ → Type 0
+FirstEnough work A from to first =
+    MatchOption first (TooShort work A from (to + 1)) (λ y. (from ≤ y) × (y < to + 1) × (1024 * work + A y ≤ 1024 * y) × TooShort work A from y)

@@ -1,4 +1,4 @@
 pub mod Front
 pub mod Ahead
-pub mod Sweep
+pub mod Turn
 pub mod Weighing

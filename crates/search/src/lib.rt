@@ -3,9 +3,10 @@
 
 mod ahead;
 mod allowance;
+mod bound;
 mod front;
 mod misfit;
-mod sweep;
+mod snapshot;
+mod turn;
 
-pub use allowance::{exact_allowance, line_allowance};
-pub use misfit::first_misfit;
+pub use snapshot::Snapshot;

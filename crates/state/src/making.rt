@@ -12,7 +12,7 @@ use crate::state::State;
 use arrivals::LAST_READING;
 use bounded::Bounded;
 use lanes::{Lanes, Released};
-use search::exact_allowance;
+use search::Snapshot;
 use tasks::Draft;
 
 impl State {
@@ -24,6 +24,10 @@ impl State {
             return Err(StateRefusal::ReadingTooLate);
         }
         let lanes = Lanes::new(draft).ok_or(StateRefusal::SharesTooLarge)?;
+        let fresh = Snapshot {
+            lanes: &lanes,
+            clock: 0,
+        };
         Ok(State {
             clock: reading,
             lanes,
@@ -32,7 +36,7 @@ impl State {
                 remaining: 1,
             }),
             granted: 0,
-            fresh_allowance: exact_allowance(&lanes, 0),
+            fresh_allowance: fresh.exact_allowance(),
         })
     }
 

@@ -10,6 +10,7 @@ ghost use Rattle.state.specs.State.{state_of};
 
 use crate::state::State;
 use lanes::{Lanes, Released};
+use search::Snapshot;
 
 impl State {
     // The instant that the clock reads.
@@ -25,6 +26,17 @@ impl State {
         ensures { lanes_of result.now ≡ (state_of self.now).lanes }
     {
         &self.lanes
+    }
+
+    // The lanes at the instant that the clock reads.
+    pub fn snapshot(&self) -> Snapshot<'_>
+        ensures clock { result.clock ≡ (state_of self.now).clock }
+        ensures lanes { lanes_of result.lanes.now ≡ (state_of self.now).lanes }
+    {
+        Snapshot {
+            lanes: &self.lanes,
+            clock: self.clock,
+        }
     }
 
     // The background jobs that were handed out and have not ended, oldest first.
@@ -88,6 +100,6 @@ impl State {
         ensures value { result ≡ first_misfit (state_of self.now).clock amount (state_of self.now).lanes }
         ensures first { FirstMisfit (state_of self.now).clock amount (state_of self.now).lanes result }
     {
-        search::first_misfit(&self.lanes, self.clock, amount)
+        self.snapshot().first_misfit(amount)
     }
 }

@@ -1,11 +1,33 @@
 -- A walk along the staircases that keeps the longest one so far, and what it comes to.
-use Rattle.std.proofs.Common.{◌≡◌, zero, suc, ◌-◌, ◌<◌, ◌≤◌, Bool, true, false, cond, List, [], ◌∷◌, map, length, get_or, take, drop, fold, sym, refl, ap, ◌∙◌, inl, inr, arith}
-use Rattle.std.proofs.lemmas.List.{take_all}
+use Rattle.std.proofs.Common.{◌≡◌, ℕ, ◌+◌, zero, suc, ◌-◌, ◌<◌, ◌≤◌, Bool, true, false, cond, List, [], ◌∷◌, map, length, get_or, take, drop, fold, sym, refl, ap, ◌∙◌, inl, inr, arith}
+use Rattle.std.proofs.lemmas.List.{at_drop_all, at_drop_more, take_all}
 use Rattle.std.proofs.lemmas.Bool.{cases_cond, cond_both}
 use Rattle.std.proofs.lemmas.Bool.Decides.{nat_tests}
 use Rattle.std.specs.List.{ContainsAt, AllByRecursion}
 use Rattle.tasks.specs.LongStaircase.{LongOf}
 use Rattle.tasks.specs.Staircase.{StaircaseModel, long_staircase, longer, longest, longest_by, longest_of, no_staircase}
+
+same_either : {A : Type 0} (b : Bool) (x : A) → cond b x x ≡ x
+same_either true x = refl
+same_either false x = refl
+
+-- A loop that keeps the longest so far, over things of the code that are each seen as something that has a staircase.
+module _ {X A : Type 0} (none : A) (staircase : A → StaircaseModel) (view : X → A) where
+  pub longest_start : (xs : List X) (x : X) → 0 < length xs → x ≡ get_or xs 0 x → longest_by staircase (view x) (map view xs) ≡ longest_of none staircase (map view xs)
+  longest_start [] x h r = absurd (omega arith)
+  longest_start (y ∷ ys) x h r =
+      ap (λ z. longest_by staircase (view z) (map view (y ∷ ys))) r
+      ∙ ap (λ s. longest_by staircase s (map view ys)) (same_either (longer (staircase (view y)) (staircase (view y))) (view y))
+
+  pub longest_more : (xs : List X) (x y z : X) (i : ℕ) (l : A) → i < length xs → x ≡ get_or xs i x → view z ≡ cond (longer (staircase (view x)) (staircase (view y))) (view x) (view y)
+      → longest_by staircase (view y) (map view (drop i xs)) ≡ l → longest_by staircase (view z) (map view (drop (i + 1) xs)) ≡ l
+  longest_more xs x y z i l h r e inv =
+      let here : longest_by staircase (view y) (map view (drop i xs)) ≡ longest_by staircase (view y) (map view (x ∷ drop (i + 1) xs)) =
+      at_drop_more (λ ys. longest_by staircase (view y) (map view ys)) xs i x h ∙ ap (λ w. longest_by staircase (view y) (map view (w ∷ drop (i + 1) xs))) (sym r) in
+      ap (λ s. longest_by staircase s (map view (drop (i + 1) xs))) e ∙ sym here ∙ inv
+
+  pub longest_all : (xs : List X) (y : X) (i : ℕ) (l : A) → length xs ≤ i → longest_by staircase (view y) (map view (drop i xs)) ≡ l → view y ≡ l
+  longest_all xs y i l h inv = sym (at_drop_all (λ ys. longest_by staircase (view y) (map view ys)) xs i h) ∙ inv
 
 -- the staircase is itself the thing that has it
 longest_as : (s : StaircaseModel) (ss : List StaircaseModel) → longest s ss ≡ longest_by (λ u. u) s ss

@@ -1,6 +1,7 @@
 -- What the ranges in the types of a task say of its share and its peak work.
-use Rattle.std.proofs.Common.{ℕ, zero, suc, ◌+◌, ◌-◌, ◌*◌, ◌/◌, ◌<◌, ◌≤◌, cond, List, [], ◌∷◌, map, div-lt_iff_lt-mul, mul-le-mul_right, arith}
-use Rattle.std.proofs.Math.Nat.{div-zero}
+use Rattle.std.proofs.Common.{◌≡◌, ℕ, zero, suc, ◌+◌, ◌-◌, ◌*◌, ◌/◌, ◌%◌, ◌<◌, ◌≤◌, min, cond, List, [], ◌∷◌, map, div-lt_iff_lt-mul, mul-le-mul_right, arith}
+use Rattle.std.proofs.Math.Nat.{div-zero, le-div_iff_mul-le}
+use Rattle.std.proofs.lemmas.Grind.{div_ceil_times}
 use Rattle.std.proofs.lemmas.Bool.{cond_both}
 use Rattle.bounded.specs.List.{items}
 use Rattle.tasks.specs.Staircase.{StaircaseModel, longer, longest, long_staircase, staircase_of}
@@ -13,7 +14,9 @@ share_of-le : (limit step burst : ℕ) → share_of limit (record { burst = burs
 share_of-le limit zero burst = omega (arith, div-zero (1024 * limit))
 share_of-le limit (suc step) burst =
     let one : 1 ≤ 1024 * limit + 1 = omega arith in
-    let less : (1024 * limit + (suc step - 1)) / suc step < 1024 * limit + 1 = (div-lt_iff_lt-mul (omega arith)).1 (omega (arith, mul-le-mul_right step one)) in
+    let some : 0 < suc step = omega arith in
+    let within : 1024 * limit + (suc step - 1) < (1024 * limit + 1) * suc step = omega (arith, mul-le-mul_right step one) in
+    let less : (1024 * limit + (suc step - 1)) / suc step < 1024 * limit + 1 = (div-lt_iff_lt-mul some).1 within in
     omega arith
 
 longest-burst : (s : StaircaseModel) (ts : List Staircase) → s.burst ≤ 8 → (longest s (map staircase_of ts)).burst ≤ 8
@@ -33,3 +36,13 @@ share-le t =
 
 pub peak-le : (t : Task) → peak_of (task_of t) ≤ 1024
 peak-le t = omega (arith, mul-le-mul_right (8 + long_burst (task_of t)) t.limit_below, long_burst-le (items t.staircases))
+
+-- a quotient rounded up, as the code has it and as a share is defined
+pub rounded_up : (x y : ℕ) → 0 < y → x / y + min 1 (x % y) ≡ (x + (y - 1)) / y
+rounded_up x y some =
+    let q : ℕ = x / y + min 1 (x % y) in
+    let times = div_ceil_times x y some in
+    let next : (q + 1) * y ≡ q * y + y = omega arith in
+    let below : (x + (y - 1)) / y < q + 1 = (div-lt_iff_lt-mul some).1 (omega (arith, next, times.0)) in
+    let above : q ≤ (x + (y - 1)) / y = (le-div_iff_mul-le some).1 (omega (arith, times.1)) in
+    omega (arith, below, above)

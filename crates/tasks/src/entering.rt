@@ -33,7 +33,8 @@ impl Draft {
         self.add(Task::new(limit, deadline, staircases))
     }
 
-    // The same for a task given by its period, its jitter and the least distance between two arrivals.
+    // The same for a task given by its period, its jitter and the least distance between two arrivals. Calls take plain numbers
+    // and refuse: a struct of numbers that nobody has looked at would be a name more for a caller, and no fact.
     pub fn enter_periodic(
         &mut self,
         limit: u64,

@@ -35,7 +35,7 @@ pub fn longest<T: HasStaircase + Copy>(first: T, rest: &[T]) -> T
     ensures { result ≡ longest_by T.staircase first rest.now }
 {
     rest.iter()
-        .fold(first, |longest, thing| longer_of(longest, *thing))
+        .fold(first, |longer, other| longer_of(longer, *other))
 }
 
 // The second, if its staircase is the longer one, and otherwise the first.

@@ -1,5 +1,5 @@
 // The one maker of tasks, from plain numbers.
-ghost use Rattle.std.specs.Prelude.{◌≡◌, ◌+◌, ◌≤◌, [], ◌∷◌, map, length, if◌then◌else◌, None, Ok, Err, false};
+ghost use Rattle.std.specs.Prelude.{◌≡◌, ◌+◌, ◌≤◌, [], ◌∷◌, map, length, if◌then◌else◌, None, Ok, Err};
 ghost use Rattle.bounded.specs.List.{items};
 ghost use Rattle.tasks.specs.Making.{in_range, making, making_periodic, staircase_from, unless_wrong, wrong_number, wrong_staircase};
 ghost use Rattle.tasks.specs.EntryRefusal.{entry_refusal};
@@ -12,15 +12,13 @@ use crate::refusal::{EntryRefusal, Quantity};
 use crate::staircase::Staircase;
 use crate::task::Task;
 use bounded::Bounded;
-use std::ops::RangeInclusive;
 
 impl Quantity {
-    // Refuses a value outside the range.
-    fn check(self, value: u64, range: RangeInclusive<u64>) -> Result<(), EntryRefusal>
-        requires { range.exhausted ≡ false }
-        ensures { result ≡ (if in_range range.start range.end value then Ok tt else Err (OutOfRange self)) }
+    // Refuses a value outside low..=high.
+    fn check(self, value: u64, low: u64, high: u64) -> Result<(), EntryRefusal>
+        ensures { result ≡ (if in_range low high value then Ok tt else Err (OutOfRange self)) }
     {
-        if range.contains(&value) {
+        if (low..=high).contains(&value) {
             Ok(())
         } else {
             Err(EntryRefusal::OutOfRange(self))
@@ -32,8 +30,8 @@ impl Quantity {
 fn make_staircase(number: u64, burst: u64, step: u64) -> Result<Staircase, EntryRefusal>
     ensures { reply staircase_of entry_refusal result ≡ unless_wrong (wrong_number number (burst, step) None) (served (staircase_from (burst, step))) }
 {
-    Quantity::Burst(number).check(burst, 1..=8)?;
-    Quantity::Step(number).check(step, 1..=4096)?;
+    Quantity::Burst(number).check(burst, 1, 8)?;
+    Quantity::Step(number).check(step, 1, 4096)?;
     Ok(Staircase { burst, step })
 }
 
@@ -43,6 +41,7 @@ fn make_staircases(pairs: &[(u64, u64)]) -> Result<Bounded<Staircase, 4>, EntryR
     ensures { reply (λ list. map staircase_of (items list)) entry_refusal result ≡ unless_wrong (wrong_staircase 1 pairs.now) (served (map staircase_from pairs.now)) }
 {
     let mut staircases = Bounded::new(Staircase { burst: 1, step: 1 });
+    // a `for` and no chain: the first refusal ends it, and names the staircase
     for (i, (burst, step)) in pairs.iter().enumerate() {
         let staircase = make_staircase(i as u64 + 1, *burst, *step)?;
         let _ = staircases.push(staircase);
@@ -65,9 +64,9 @@ impl Task {
     pub fn new(limit: u64, deadline: u64, staircases: &[(u64, u64)]) -> Result<Task, EntryRefusal>
         ensures { reply task_of entry_refusal result ≡ making limit deadline staircases.now }
     {
-        Quantity::Limit.check(limit, 1..=64)?;
-        Quantity::Deadline.check(deadline, 1..=1024)?;
-        Quantity::Count.check(staircases.len() as u64, 1..=4)?;
+        Quantity::Limit.check(limit, 1, 64)?;
+        Quantity::Deadline.check(deadline, 1, 1024)?;
+        Quantity::Count.check(staircases.len() as u64, 1, 4)?;
         let staircases = make_staircases(staircases)?;
         if pending_bound(deadline, staircases.as_slice()) > 8 {
             return Err(EntryRefusal::TooManyPending);
@@ -100,11 +99,11 @@ impl Task {
     ) -> Result<Task, EntryRefusal>
         ensures { reply task_of entry_refusal result ≡ making_periodic limit deadline period jitter distance }
     {
-        Quantity::Limit.check(limit, 1..=64)?;
-        Quantity::Deadline.check(deadline, 1..=1024)?;
-        Quantity::Period.check(period, 1..=4096)?;
-        Quantity::Jitter.check(jitter, 0..=32768)?;
-        Quantity::Distance.check(distance, 1..=4096)?;
+        Quantity::Limit.check(limit, 1, 64)?;
+        Quantity::Deadline.check(deadline, 1, 1024)?;
+        Quantity::Period.check(period, 1, 4096)?;
+        Quantity::Jitter.check(jitter, 0, 32768)?;
+        Quantity::Distance.check(distance, 1, 4096)?;
         Task::new(
             limit,
             deadline,

@@ -38,6 +38,6 @@ impl Task {
         ensures bound { result ≤ 65536 }
     {
         let staircase = self.long_staircase();
-        (1024 * self.limit + (staircase.step - 1)) / staircase.step
+        (1024 * self.limit).div_ceil(staircase.step)
     }
 }

@@ -4,6 +4,7 @@ ghost use Rattle.tasks.specs.Staircase.{pending_bound, staircase_of};
 
 use crate::staircase::Staircase;
 use bounded::Bounded;
+use std::fmt;
 
 // A critical task: each of its jobs runs for at most `limit` ticks and has to end within `deadline` ticks of its arrival.
 // The facts below hold of every value, whoever made it; the last one is that at most eight jobs can be pending at once.
@@ -18,4 +19,13 @@ pub struct Task {
     ghost deadline_below: { deadline ≤ 1024 },
     ghost bounded_arrivals: { 1 ≤ length (items staircases) },
     ghost few_pending: { pending_bound deadline (map staircase_of (items staircases)) ≤ 8 },
+}
+
+// The limit and the deadline, without the staircases.
+impl fmt::Display for Task {
+    fn fmt<W: fmt::Write>(&self, f: &mut fmt::Formatter<W>) -> fmt::Result {
+        let limit = self.limit;
+        let deadline = self.deadline;
+        write!(f, "limit {limit}, deadline {deadline}")
+    }
 }

@@ -1,9 +1,8 @@
 pub mod Replies
+pub mod Digits
+pub mod Staircases
 pub mod Numerals
 pub mod WrittenBack
+pub mod Lengths
 pub mod ReadsBack
-pub mod Scans
-pub mod Fields
-pub mod Entries
-pub mod Tables
-pub mod Puts
+pub mod Texts

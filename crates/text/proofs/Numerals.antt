@@ -1,12 +1,15 @@
 -- The digits in front of a text, and numerals there and back.
 use Rattle.std.proofs.Common.{◌≡◌, ℕ, ◌<◌, ◌≤◌, Bool, true, false, ◌&&◌, eqb, List, [], ◌∷◌, ◌++◌, length, get_or, drop, decimal, sym, refl, ap, ◌∙◌, inl, inr, arith, rules}
+use Rattle.std.proofs.lemmas.Grind.{common_steps}
 use Rattle.std.proofs.lemmas.Fmt.{decimal_digit, decimal_nonempty, decimal-digits_value, digits_decimal, first_decimal, digits_value-decimal}
-use Rattle.std.proofs.lemmas.List.{drop_at}
+use Rattle.std.proofs.lemmas.List.{drop_at, take-append-drop}
 use Rattle.std.proofs.lemmas.Str.Parse.{IsNumeralModel, numerals_by_fold}
-use Rattle.std.proofs.lemmas.Bool.{and_from, and_parts, cases_lt, cond_both, cond-false, cond-true, eq-eqb, eqb-true}
+use Rattle.std.proofs.lemmas.Bool.{cases_lt, cond-false, cond-true, eq-eqb, eqb-true}
 use Rattle.std.proofs.lemmas.Bool.Decides.{nat_tests}
+use Rattle.std.specs.List.{prefix_len}
 use Rattle.tasks.specs.Reply.{served}
-use Rattle.text.proofs.Replies.{not_served, served_if, served_unless, then_served}
+use Rattle.text.proofs.Digits.{leading_length, leading_taken}
+use Rattle.text.proofs.Replies.{served_if, served_unless, then_served}
 use Rattle.text.specs.Bytes.{expect}
 use Rattle.text.specs.Numeral.{field, is_digit, leading_digits, not_allowed, number_after, numeral, numeral_of}
 use Rattle.text.specs.Writing.{field_text}
@@ -20,22 +23,15 @@ own = numerals_by_fold _ (search rules) number_after (search rules)
 
 leading_all : (bs : List ℕ) → all_digits (leading_digits bs) ≡ true
 leading_all [] = refl
-leading_all (b ∷ bs) =
-    cond_both (is_digit b) (b ∷ leading_digits bs) [] (λ l. all_digits l ≡ true) (λ e. and_from _ _ e (leading_all bs)) (λ e. refl)
+leading_all (b ∷ bs) = grind (arith, common_steps, leading_all bs)
 
 leading_front : (bs : List ℕ) → leading_digits bs ++ drop (length (leading_digits bs)) bs ≡ bs
-leading_front [] = refl
-leading_front (b ∷ bs) =
-    cond_both (is_digit b) (b ∷ leading_digits bs) [] (λ l. l ++ drop (length l) (b ∷ bs) ≡ b ∷ bs)
-    (λ e. ap (λ l. b ∷ l) (leading_front bs))
-    (λ e. refl)
+leading_front bs = rw (← leading_length bs, ← leading_taken bs) (take-append-drop (prefix_len is_digit bs) bs)
 
 -- digits and then something else
 leading_append : (ds rest : List ℕ) → all_digits ds ≡ true → leading_digits rest ≡ [] → leading_digits (ds ++ rest) ≡ ds
 leading_append [] rest a n = n
-leading_append (d ∷ ds) rest a n =
-    let p = and_parts (is_digit d) (all_digits ds) a in
-    cond-true (is_digit d) _ _ p.0 ∙ ap (λ l. d ∷ l) (leading_append ds rest p.1 n)
+leading_append (d ∷ ds) rest a n = grind (arith, common_steps, leading_append ds rest)
 
 -- a single zero, or digits that begin with another one
 lone_zero : (ds : List ℕ) → not_allowed ds ≡ false → get_or ds 0 0 ≡ 48 → 0 < length ds → length ds ≡ 1
@@ -55,7 +51,7 @@ decimal_allowed n h =
 -- what is read is what is written of it
 numeral_of_written : (ds line left : List ℕ) (v : ℕ × List ℕ) → all_digits ds ≡ true
     → numeral_of ds line left ≡ served v → (decimal v.0 ≡ ds) × (v.1 ≡ drop (length ds) left)
-numeral_of_written [] line left v a e = not_served _ _ e
+numeral_of_written [] line left v a e = cc
 numeral_of_written (d ∷ ds) line left v a e =
     let p = served_unless (not_allowed (d ∷ ds)) _ _ _ e in
     let w : (number_after 0 (d ∷ ds), drop (length (d ∷ ds)) left) ≡ v = cc p.1 in
@@ -71,7 +67,7 @@ numeral_written line left v e =
     rw (p.0, p.1) (sym (leading_front left))
 
 pub expect_written : (b : ℕ) (line left rest : List ℕ) → expect b line left ≡ served rest → left ≡ b ∷ rest
-expect_written b line [] rest e = not_served _ _ e
+expect_written b line [] rest e = cc
 expect_written b line (x ∷ xs) rest e =
     let p = served_if (eqb x b) _ _ _ e in let i = eqb-true x b p.0 in cc p.1
 

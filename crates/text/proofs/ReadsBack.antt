@@ -1,36 +1,33 @@
 -- What is written of a draft's tasks reads back as them.
-use Rattle.std.proofs.Common.{◌≡◌, ℕ, zero, suc, ◌+◌, ◌*◌, ◌<◌, ◌≤◌, true, ltb, leb, List, [], ◌∷◌, ◌++◌, map, length, None, sym, refl, ap, ◌∙◌, arith, length-append}
+use Rattle.std.proofs.Common.{◌≡◌, ℕ, zero, suc, ◌+◌, ◌<◌, ◌≤◌, true, ltb, List, [], ◌∷◌, ◌++◌, map, length, None, sym, refl, ap, ◌∙◌, arith, length-append}
 use Rattle.bounded.specs.List.{items}
-use Rattle.std.proofs.lemmas.Fmt.{length-decimal-le}
 use Rattle.std.proofs.lemmas.List.{append_assoc, append-nil, length-map, length-take}
-use Rattle.std.proofs.lemmas.Bool.{and_from, cond-false, cond-true, le-leb, le-ltb, lt-ltb}
-use Rattle.std.specs.List.{flat_map}
+use Rattle.std.proofs.lemmas.Bool.{cond-false, cond-true, le-leb, le-ltb, lt-ltb}
+use Rattle.std.proofs.lemmas.Bool.Decides.{nat_tests}
+use Rattle.tasks.specs.Draft.{draft_of}
 use Rattle.tasks.specs.Making.{in_range, making, staircase_from, wrong_staircase}
 use Rattle.tasks.specs.Reply.{served}
 use Rattle.tasks.specs.Staircase.{pending_bound, staircase_of}
 use Rattle.tasks.specs.Task.{TaskModel, task_of}
+use Rattle.tasks.specs.declared.draft.Draft.{Draft}
 use Rattle.tasks.specs.declared.staircase.Staircase.{Staircase}
 use Rattle.tasks.specs.declared.task.Task.{Task}
+use Rattle.text.proofs.Lengths.{few_staircases, staircases_text, table_length}
 use Rattle.text.proofs.Numerals.{expect_here, field_read}
-use Rattle.text.proofs.Replies.{then_on}
 use Rattle.text.proofs.WrittenBack.{line_and_rest}
-use Rattle.text.specs.Bytes.{expect_all, place}
-use Rattle.text.specs.Line.{entry_made, line_entered, numbers, staircase, staircases, staircases_after}
+use Rattle.text.specs.Bytes.{expect_all}
+use Rattle.text.specs.Line.{line_entered, numbers, staircase, staircases, staircases_after}
 use Rattle.text.specs.Numeral.{field, leading_digits}
-use Rattle.text.specs.Reading.{lines, placed_at, reading}
+use Rattle.text.specs.Reading.{lines, reading}
 use Rattle.text.specs.RoundTrip.{ReadsBack}
 use Rattle.text.specs.Writing.{field_text, line_text, staircase_text, table_text, task_word}
 
 abbrev pair_of : Staircase → ℕ × ℕ
 pair_of s = (s.burst, s.step)
 
--- the staircases as text
-abbrev pub staircases_text : List Staircase → List ℕ
-staircases_text ss = flat_map staircase_text (map staircase_of ss)
-
 -- the numbers of a task are those that it is made from
 in_range_true : (low high n : ℕ) → low ≤ n → n ≤ high → in_range low high n ≡ true
-in_range_true low high n a b = and_from (leb low n) (leb n high) (le-leb low n a) (le-leb n high b)
+in_range_true low high n a b = grind (arith, nat_tests)
 
 none_wrong : (k : ℕ) (ss : List Staircase) → wrong_staircase k (map pair_of ss) ≡ None
 none_wrong k [] = refl
@@ -42,10 +39,6 @@ none_wrong k (s ∷ ss) =
 from_pairs : (ss : List Staircase) → map staircase_from (map pair_of ss) ≡ map staircase_of ss
 from_pairs [] = refl
 from_pairs (s ∷ ss) = ap (λ l. staircase_of s ∷ l) (from_pairs ss)
-
-few_staircases : (t : Task) → length (items t.staircases) ≤ 4
-few_staircases t =
-    let h = length-take t.staircases.len t.staircases.slots in let w = t.staircases.within in omega arith
 
 making_of : (t : Task) → making t.limit t.deadline (map pair_of (items t.staircases)) ≡ served (task_of t)
 making_of t =
@@ -65,10 +58,7 @@ unfolding staircase
 staircase_read s line rest e =
     let b = s.burst_below in
     let d = s.step_below in
-    rw (append_assoc (field_text 32 s.burst) (field_text 47 s.step) rest)
-    (then_on (field 32 line (field_text 32 s.burst ++ (field_text 47 s.step ++ rest))) _ (s.burst, field_text 47 s.step ++ rest) _
-    (field_read 32 s.burst line (field_text 47 s.step ++ rest) (omega arith) refl)
-    (then_on (field 47 line (field_text 47 s.step ++ rest)) _ (s.step, rest) _ (field_read 47 s.step line rest (omega arith) e) refl))
+    rw (append_assoc (field_text 32 s.burst) (field_text 47 s.step) rest, field_read 32 s.burst line (field_text 47 s.step ++ rest) (omega arith) refl, field_read 47 s.step line rest (omega arith) e)
 
 -- no digit stands behind a staircase
 no_digit : (ss : List Staircase) (rest : List ℕ) → leading_digits (staircases_text ss ++ (10 ∷ rest)) ≡ []
@@ -82,11 +72,8 @@ staircases_after_read zero ps (s ∷ ss) line rest h = absurd (omega arith)
 staircases_after_read (suc k) ps [] line rest h = rw append-nil
 staircases_after_read (suc k) ps (s ∷ ss) line rest h =
     let R = staircases_text ss ++ (10 ∷ rest) in
-    ap (staircases_after (suc k) ps line) (append_assoc (staircase_text (staircase_of s)) (staircases_text ss) (10 ∷ rest))
-    ∙ then_on (staircase line (staircase_text (staircase_of s) ++ R)) (λ p. staircases_after k (ps ++ p.0 ∷ []) line p.1) (pair_of s, R) _
-    (staircase_read s line R (no_digit ss rest))
-    (staircases_after_read k (ps ++ pair_of s ∷ []) ss line rest (omega arith))
-    ∙ ap (λ l. served (l, rest)) (append_assoc ps (pair_of s ∷ []) (map pair_of ss))
+    rw (append_assoc (staircase_text (staircase_of s)) (staircases_text ss) (10 ∷ rest), staircase_read s line R (no_digit ss rest))
+    (staircases_after_read k (ps ++ pair_of s ∷ []) ss line rest (omega arith) ∙ ap (λ l. served (l, rest)) (append_assoc ps (pair_of s ∷ []) (map pair_of ss)))
 
 staircases_read : (ss : List Staircase) (line rest : List ℕ) → 1 ≤ length ss → length ss ≤ 4
     → staircases line (staircases_text ss ++ (10 ∷ rest)) ≡ served (map pair_of ss, rest)
@@ -94,9 +81,7 @@ unfolding staircases
 staircases_read [] line rest a b = absurd (omega arith)
 staircases_read (s ∷ ss) line rest a b =
     let R = staircases_text ss ++ (10 ∷ rest) in
-    ap (staircases line) (append_assoc (staircase_text (staircase_of s)) (staircases_text ss) (10 ∷ rest))
-    ∙ then_on (staircase line (staircase_text (staircase_of s) ++ R)) (λ p. staircases_after 3 (p.0 ∷ []) line p.1) (pair_of s, R) _
-    (staircase_read s line R (no_digit ss rest))
+    rw (append_assoc (staircase_text (staircase_of s)) (staircases_text ss) (10 ∷ rest), staircase_read s line R (no_digit ss rest))
     (staircases_after_read 3 (pair_of s ∷ []) ss line rest (omega arith))
 
 expect_all_here : (bs line rest : List ℕ) → expect_all bs line (bs ++ rest) ≡ served rest
@@ -104,13 +89,11 @@ expect_all_here [] line rest = refl
 expect_all_here (b ∷ bs) line rest = rw (expect_here b line (bs ++ rest)) (expect_all_here bs line rest)
 
 -- a line from what its parts give
-pub numbers_from : (line C D S rest : List ℕ) (c d : ℕ) (ps : List (ℕ × ℕ))
+numbers_from : (line C D S rest : List ℕ) (c d : ℕ) (ps : List (ℕ × ℕ))
     → expect_all task_word line line ≡ served C → field 32 line C ≡ served (c, D) → field 32 line D ≡ served (d, S) → staircases line S ≡ served (ps, rest)
     → numbers line ≡ served (record { limit = c; deadline = d; staircases = ps }, rest)
 unfolding numbers
-numbers_from line C D S rest c d ps h i j k =
-    then_on (expect_all task_word line line) _ C _ h
-    (then_on (field 32 line C) _ (c, D) _ i (then_on (field 32 line D) _ (d, S) _ j (then_on (staircases line S) _ (ps, rest) _ k refl)))
+numbers_from line C D S rest c d ps h i j k = rw (h, i, j, k)
 
 numbers_read : (t : Task) (rest : List ℕ)
     → numbers (line_text (task_of t) ++ rest) ≡ served (record { limit = t.limit; deadline = t.deadline; staircases = map pair_of (items t.staircases) }, rest)
@@ -133,9 +116,7 @@ numbers_read t rest =
 line_entered_read : (ts : List TaskModel) (t : Task) (rest : List ℕ) → length ts < 8
     → line_entered ts (line_text (task_of t) ++ rest) ≡ served (ts ++ task_of t ∷ [], rest)
 unfolding line_entered
-line_entered_read ts t rest h =
-    then_on (numbers (line_text (task_of t) ++ rest)) _ _ _ (numbers_read t rest)
-    (ap (λ x. entry_made ts x rest) (cond-true (ltb (length ts) 8) _ _ (lt-ltb (length ts) 8 h) ∙ making_of t))
+line_entered_read ts t rest h = rw (numbers_read t rest, cond-true (ltb (length ts) 8) _ _ (lt-ltb (length ts) 8 h), making_of t)
 
 lines_read : (turns number : ℕ) (ts : List TaskModel) (us : List Task) (text : List ℕ) → length us ≤ turns → length ts + length us ≤ 8
     → lines turns number ts text (table_text (map task_of us)) ≡ served (ts ++ map task_of us)
@@ -144,47 +125,9 @@ lines_read zero number ts [] text a b = rw append-nil
 lines_read (suc turns) number ts [] text a b = rw append-nil
 lines_read zero number ts (t ∷ us) text a b = absurd (omega arith)
 lines_read (suc turns) number ts (t ∷ us) text a b =
-    let rest = table_text (map task_of us) in
-    let line = line_text (task_of t) ++ rest in
     let n = length-append ts (task_of t ∷ []) in
-    then_on (placed_at number (placed_at (place text line) (line_entered ts line))) (λ e. lines turns (number + 1) e.0 text e.1) (ts ++ task_of t ∷ [], rest) _
-    (ap (λ x. placed_at number (placed_at (place text line) x)) (line_entered_read ts t rest (omega arith)))
-    (lines_read turns (number + 1) (ts ++ task_of t ∷ []) us text (omega arith) (omega arith))
-    ∙ ap served (append_assoc ts (task_of t ∷ []) (map task_of us))
-
--- how long the text is
-staircase_length : (s : Staircase) → length (staircase_text (staircase_of s)) ≤ 12
-staircase_length s =
-    let a = length-decimal-le 5 s.burst (omega arith) (omega (arith, s.burst_below)) (omega (arith, s.burst_below)) in
-    let b = length-decimal-le 5 s.step (omega arith) (omega (arith, s.step_below)) (omega (arith, s.step_below)) in
-    rw length-append (omega arith)
-
-staircases_length : (ss : List Staircase) → length (staircases_text ss) ≤ 12 * length ss
-staircases_length [] = omega arith
-staircases_length (s ∷ ss) =
-    let a = staircase_length s in
-    let b = staircases_length ss in
-    rw (length-append (staircase_text (staircase_of s)) (staircases_text ss)) (omega arith)
-
-line_length : (t : Task) → (1 ≤ length (line_text (task_of t))) × (length (line_text (task_of t)) ≤ 65)
-unfolding line_text
-line_length t =
-    let a = length-decimal-le 5 t.limit (omega arith) (omega (arith, t.limit_below)) (omega (arith, t.limit_below)) in
-    let b = length-decimal-le 5 t.deadline (omega arith) (omega (arith, t.deadline_below)) (omega (arith, t.deadline_below)) in
-    let n = staircases_length (items t.staircases) in
-    let m = few_staircases t in
-    let x = length-append (staircases_text (items t.staircases)) (10 ∷ []) in
-    let y = length-append (field_text 32 t.deadline) (staircases_text (items t.staircases) ++ 10 ∷ []) in
-    let z = length-append (field_text 32 t.limit) (field_text 32 t.deadline ++ (staircases_text (items t.staircases) ++ 10 ∷ [])) in
-    (omega arith, omega arith)
-
-table_length : (us : List Task) → (length us ≤ length (table_text (map task_of us))) × (length (table_text (map task_of us)) ≤ 65 * length us)
-table_length [] = (omega arith, omega arith)
-table_length (t ∷ us) =
-    let a = line_length t in
-    let b = table_length us in
-    let n = length-append (line_text (task_of t)) (table_text (map task_of us)) in
-    (omega arith, omega arith)
+    rw (line_entered_read ts t (table_text (map task_of us)) (omega arith))
+    (lines_read turns (number + 1) (ts ++ task_of t ∷ []) us text (omega arith) (omega arith) ∙ ap served (append_assoc ts (task_of t ∷ []) (map task_of us)))
 
 pub reads_back : (us : List Task) → length us ≤ 8 → ReadsBack (map task_of us)
 unfolding reading
@@ -193,3 +136,6 @@ reads_back us h =
     let n = table_length us in
     cond-false (ltb 4096 (length text)) _ _ (le-ltb 4096 (length text) (omega arith))
     ∙ lines_read (length text) 1 [] us text (omega arith) (omega arith)
+
+pub draft_reads_back : (d : Draft) → ReadsBack (draft_of d)
+draft_reads_back d = reads_back (items d.tasks) (omega (arith, length-take d.tasks.len d.tasks.slots, d.tasks.within))

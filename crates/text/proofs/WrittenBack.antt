@@ -9,7 +9,7 @@ use Rattle.tasks.specs.Staircase.{pending_bound}
 use Rattle.tasks.specs.Task.{TaskModel}
 use Rattle.tasks.specs.declared.refusal.Quantity.{Quantity}
 use Rattle.text.proofs.Numerals.{expect_written, field_written}
-use Rattle.text.proofs.Replies.{not_served, placed_served, served_if, served_unless, then_served}
+use Rattle.text.proofs.Replies.{placed_served, served_if, served_unless, then_served}
 use Rattle.text.specs.Bytes.{expect, expect_all, place, starts}
 use Rattle.text.specs.Line.{Numbers, entry_made, line_entered, numbers, staircase, staircases, staircases_after}
 use Rattle.text.specs.Numeral.{field}
@@ -102,7 +102,7 @@ numbers_written line v e =
 
 unless_wrong_served : (o : Option Quantity) (x : Reply TaskModel) (t : TaskModel) → unless_wrong o x ≡ served t → x ≡ served t
 unless_wrong_served None x t e = e
-unless_wrong_served (Some q) x t e = not_served _ _ e
+unless_wrong_served (Some q) x t e = cc
 
 -- a task that is made has the numbers that it was made from
 making_same : (e : Numbers) (t : TaskModel) → making e.limit e.deadline e.staircases ≡ served t → task_from e ≡ t
@@ -114,7 +114,7 @@ making_same e t h =
 entry_written : (ts : List TaskModel) (x : Reply TaskModel) (rest : List ℕ) (v : List TaskModel × List ℕ)
     → entry_made ts x rest ≡ served v → (t : TaskModel) × (x ≡ served t) × ((ts ++ t ∷ [], rest) ≡ v)
 entry_written ts (served t) rest v e = (t, refl, cc)
-entry_written ts (refused r) rest v e = not_served _ _ e
+entry_written ts (refused r) rest v e = cc
 
 line_entered_written : (ts : List TaskModel) (line : List ℕ) (v : List TaskModel × List ℕ)
     → line_entered ts line ≡ served v → table_text ts ++ line ≡ table_text v.0 ++ v.1
@@ -144,7 +144,7 @@ line_entered_shorter ts line v e =
 lines_written : (turns number : ℕ) (ts : List TaskModel) (text left : List ℕ) (us : List TaskModel)
     → lines turns number ts text left ≡ served us → table_text ts ++ left ≡ table_text us
 lines_written zero number ts text [] us e = let z : ts ≡ us = cc in append-nil (table_text ts) ∙ ap table_text z
-lines_written zero number ts text (b ∷ bs) us e = not_served _ _ e
+lines_written zero number ts text (b ∷ bs) us e = cc
 lines_written (suc turns) number ts text [] us e = let z : ts ≡ us = cc in append-nil (table_text ts) ∙ ap table_text z
 lines_written (suc turns) number ts text (b ∷ bs) us e =
     let start = place text (b ∷ bs) in

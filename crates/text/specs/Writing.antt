@@ -1,5 +1,5 @@
 -- The text of a table, byte by byte: 32 is the space, 47 the slash and 10 the line feed.
-use Rattle.std.specs.Prelude.{ℕ, ◌+◌, cond, List, [], ◌∷◌, ◌++◌, length, take, drop, decimal, nat_le}
+use Rattle.std.specs.Prelude.{ℕ, cond, List, [], ◌∷◌, ◌++◌, length, drop, decimal, nat_le}
 use Rattle.std.specs.List.{flat_map}
 use Rattle.tasks.specs.Reply.{Reply, plain, refused, served}
 use Rattle.tasks.specs.Staircase.{StaircaseModel}
@@ -25,10 +25,6 @@ line_text t =
 -- the lines of the tasks, the one with the highest priority first
 abbrev pub table_text : List TaskModel → List ℕ
 table_text ts = flat_map line_text ts
-
--- a text put into a buffer, from this place on
-abbrev pub put_at : ℕ → List ℕ → List ℕ → List ℕ
-put_at at text buffer = take at buffer ++ text ++ drop (at + length text) buffer
 
 -- what a writer answers: the length of the text, where the buffer has room for it
 abbrev pub write_answer : List TaskModel → List ℕ → Reply ℕ

@@ -1,11 +1,10 @@
 // What is wrong with a text. Each layer keeps the fault of the layer below it and adds the place that it knows of.
 ghost use Rattle.std.specs.Prelude.{◌≡◌};
 ghost use Rattle.text.specs.Fault.{cause_refusal, numeral_refusal, table_refusal, write_refusal};
-ghost use Rattle.text.specs.Views.{with_place};
 ghost use Rattle.text.specs.declared.fault.LineCause.TheVariants.{Entry, Numeral};
 ghost use Rattle.text.specs.declared.fault.TableFault.TheVariants.{Line};
 
-use tasks::EntryRefusal;
+use tasks::{EntryRefusal, Numbered};
 
 // A numeral that is not allowed, with the place of its first byte in its line.
 #[derive(Clone, Copy, PartialEq, Eq, Debug)]
@@ -48,20 +47,10 @@ pub enum WriteRefusal {
     ShortBuffer,
 }
 
-// A fault with the place that the layer above adds.
+// A fault with the place that the layer above adds: each layer turns the fault below by From, and From takes one value.
 pub(crate) struct At<F> {
     pub(crate) place: usize,
     pub(crate) fault: F,
-}
-
-// A result whose fault gets its place.
-pub(crate) fn placed<T, F>(res: Result<T, F>, place: usize) -> Result<T, At<F>>
-    ensures { result ≡ with_place place res }
-{
-    match res {
-        Ok(value) => Ok(value),
-        Err(fault) => Err(At { place, fault }),
-    }
 }
 
 impl From<NumeralFault> for LineCause {
@@ -104,21 +93,20 @@ impl From<At<LineFault>> for TableFault {
     }
 }
 
-impl NumeralFault {
-    fn number(&self) -> u64
-        ensures { result ≡ (numeral_refusal self.now).number }
-    {
+impl Numbered for NumeralFault {
+    ghost shown = { numeral_refusal };
+
+    fn number(&self) -> u64 {
         match self {
-            NumeralFault::LeadingZero(_) => 19,
-            NumeralFault::TooLarge(_) => 19,
+            NumeralFault::LeadingZero(_) | NumeralFault::TooLarge(_) => 19,
         }
     }
 }
 
-impl LineCause {
-    fn number(&self) -> u64
-        ensures { result ≡ (cause_refusal self.now).number }
-    {
+impl Numbered for LineCause {
+    ghost shown = { cause_refusal };
+
+    fn number(&self) -> u64 {
         match self {
             LineCause::Byte(_) => 18,
             LineCause::Numeral(fault) => fault.number(),
@@ -127,23 +115,21 @@ impl LineCause {
     }
 }
 
-impl TableFault {
-    // The number under which the manual lists the refusal.
-    pub fn number(&self) -> u64
-        ensures { result ≡ (table_refusal self.now).number }
-    {
+impl Numbered for TableFault {
+    ghost shown = { table_refusal };
+
+    fn number(&self) -> u64 {
         match self {
             TableFault::TooLong => 17,
-            TableFault::Line { number: _, fault } => fault.cause.number(),
+            TableFault::Line { fault, .. } => fault.cause.number(),
         }
     }
 }
 
-impl WriteRefusal {
-    // The number under which the manual lists the refusal.
-    pub fn number(&self) -> u64
-        ensures { result ≡ (write_refusal self.now).number }
-    {
+impl Numbered for WriteRefusal {
+    ghost shown = { write_refusal };
+
+    fn number(&self) -> u64 {
         match self {
             WriteRefusal::ShortBuffer => 21,
         }

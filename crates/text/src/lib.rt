@@ -4,12 +4,11 @@
 
 mod cursor;
 mod fault;
-mod lengths;
 mod line;
 mod numbers;
-mod putting;
 mod reader;
 mod scanning;
+mod table_text;
 #[cfg(test)]
 mod tests;
 mod words;
@@ -17,4 +16,5 @@ mod writer;
 
 pub use fault::{LineCause, LineFault, NumeralFault, TableFault, WriteRefusal};
 pub use reader::{LONGEST_TEXT, read_table};
+pub use table_text::LONGEST_TABLE;
 pub use writer::write_table;

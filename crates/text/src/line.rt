@@ -1,104 +1,98 @@
 // The reader of one line.
-ghost use Rattle.std.specs.Prelude.{◌≡◌, ◌≤◌, length, drop, IfOk};
+ghost use Rattle.std.specs.Prelude.{◌≡◌, ◌≤◌, length};
 ghost use Rattle.bounded.specs.List.{items};
 ghost use Rattle.tasks.specs.Draft.{draft_of};
 ghost use Rattle.tasks.specs.Reply.{reply};
+ghost use Rattle.text.specs.Bytes.{place};
 ghost use Rattle.text.specs.Fault.{cause_refusal, line_refusal};
 ghost use Rattle.text.specs.Line.{line_entered, numbers, staircase, staircases};
 ghost use Rattle.text.specs.Reading.{placed_at};
-ghost use Rattle.text.specs.Views.{bytes_of, left_of, numbers_of};
+ghost use Rattle.text.specs.Views.{Reads, numbers_of};
 
 use crate::cursor::Cursor;
-use crate::fault::{LineCause, LineFault, placed};
+use crate::fault::{At, LineCause, LineFault};
 use crate::numbers::LineNumbers;
 use bounded::Bounded;
 use tasks::Draft;
 
 // A burst and a step.
+#[tactic(auto, unfolding(crate::specs::Line::staircase))]
 fn read_staircase(cursor: &mut Cursor) -> Result<(u64, u64), LineCause>
-    ensures answer { reply (λ p. (p, left_of cursor.new)) cause_refusal result ≡ staircase (bytes_of cursor.old) (left_of cursor.old) }
-    ensures same { bytes_of cursor.new ≡ bytes_of cursor.old }
+    ensures { Reads (λ p left. (p, left)) staircase cursor.old cursor.new result }
 {
-    let Some(burst) = cursor.field(b' ') else {
+    let Some(burst) = cursor.field(b' ')? else {
         return Err(cursor.unexpected());
     };
-    let burst = burst?;
-    let Some(step) = cursor.field(b'/') else {
+    let Some(step) = cursor.field(b'/')? else {
         return Err(cursor.unexpected());
     };
-    let step = step?;
     Ok((burst, step))
 }
 
 // One to four staircases and the line feed.
+#[tactic(auto, unfolding(crate::specs::Line::staircases))]
 fn read_staircases(cursor: &mut Cursor) -> Result<Bounded<(u64, u64), 4>, LineCause>
-    ensures answer { reply (λ ps. (items ps, left_of cursor.new)) cause_refusal result ≡ staircases (bytes_of cursor.old) (left_of cursor.old) }
-    ensures same { bytes_of cursor.new ≡ bytes_of cursor.old }
+    ensures { Reads (λ ps left. (items ps, left)) staircases cursor.old cursor.new result }
 {
     let mut pairs = Bounded::new((0, 0));
-    loop {
-        let pair = read_staircase(cursor)?;
-        let _ = pairs.push(pair);
-        if pairs.as_slice().len() == 4 || !cursor.sees(b' ') {
-            break;
-        }
+    let _ = pairs.push(read_staircase(cursor)?);
+    while pairs.as_slice().len() < 4 && cursor.sees(b' ') {
+        let _ = pairs.push(read_staircase(cursor)?);
     }
-    let Some(()) = cursor.word(b"\n") else {
-        return Err(cursor.unexpected());
-    };
+    cursor.expect_byte(b'\n')?;
     Ok(pairs)
 }
 
-// A whole line with its line feed.
-fn read_numbers(cursor: &mut Cursor) -> Result<LineNumbers, LineCause>
-    requires { left_of cursor.old ≡ bytes_of cursor.old }
-    ensures answer { reply (λ n. (numbers_of n, left_of cursor.new)) cause_refusal result ≡ numbers (bytes_of cursor.old) }
-    ensures same { bytes_of cursor.new ≡ bytes_of cursor.old }
-{
-    let Some(()) = cursor.word(b"task") else {
-        return Err(cursor.unexpected());
-    };
-    let Some(limit) = cursor.field(b' ') else {
-        return Err(cursor.unexpected());
-    };
-    let limit = limit?;
-    let Some(deadline) = cursor.field(b' ') else {
-        return Err(cursor.unexpected());
-    };
-    let deadline = deadline?;
-    let staircases = read_staircases(cursor)?;
-    Ok(LineNumbers {
-        limit,
-        deadline,
-        staircases,
-    })
-}
-
-// Enters the task of the line that these bytes begin with, and answers the length of that line.
-fn enter_line(draft: &mut Draft, bytes: &[u8]) -> Result<usize, LineCause>
-    ensures answer { reply (λ n. (draft_of draft.new, drop n bytes.now)) cause_refusal result ≡ line_entered (draft_of draft.old) bytes.now }
-    ensures within { IfOk result (λ n. n ≤ length bytes.now) }
+// The numbers of a whole line with its line feed, and the bytes behind it.
+#[tactic(auto, unfolding(crate::specs::Line::numbers))]
+fn read_numbers(bytes: &[u8]) -> Result<(LineNumbers, &[u8]), LineCause>
+    ensures { reply (λ p. (numbers_of p.0, p.1.now)) cause_refusal result ≡ numbers bytes.now }
 {
     let mut cursor = Cursor::new(bytes);
-    let LineNumbers {
+    cursor.word(b"task")?;
+    let Some(limit) = cursor.field(b' ')? else {
+        return Err(cursor.unexpected());
+    };
+    let Some(deadline) = cursor.field(b' ')? else {
+        return Err(cursor.unexpected());
+    };
+    let staircases = read_staircases(&mut cursor)?;
+    let numbers = LineNumbers {
         limit,
         deadline,
         staircases,
-    } = read_numbers(&mut cursor)?;
-    draft.enter(limit, deadline, staircases.as_slice())?;
-    Ok(cursor.at)
+    };
+    Ok((numbers, cursor.left()))
 }
 
-// The same for the line that begins at this place of the text; a fault gets the place.
-pub(crate) fn enter_line_at(
+// Enters the task of the line that these bytes begin with, and answers the bytes behind that line.
+#[tactic(auto, unfolding(crate::specs::Line::line_entered))]
+fn enter_line<'a>(draft: &mut Draft, bytes: &'a [u8]) -> Result<&'a [u8], LineCause>
+    ensures { reply (λ rest. (draft_of draft.new, rest.now)) cause_refusal result ≡ line_entered (draft_of draft.old) bytes.now }
+{
+    let (
+        LineNumbers {
+            limit,
+            deadline,
+            staircases,
+        },
+        rest,
+    ) = read_numbers(bytes)?;
+    draft.enter(limit, deadline, staircases.as_slice())?;
+    Ok(rest)
+}
+
+// The same for the line that `rest`, the end of the text, begins with; a fault gets the place of the line. No cursor over the text: it
+// would have to know that what is behind a line is the end of the text again.
+pub(crate) fn enter_line_at<'a>(
     draft: &mut Draft,
     text: &[u8],
-    start: usize,
-) -> Result<usize, LineFault>
-    requires { start ≤ length text.now }
-    ensures answer { reply (λ n. (draft_of draft.new, drop n (drop start text.now))) line_refusal result ≡ placed_at start (line_entered (draft_of draft.old) (drop start text.now)) }
-    ensures within { IfOk result (λ n. n ≤ length (drop start text.now)) }
+    rest: &'a [u8],
+) -> Result<&'a [u8], LineFault>
+    requires { length rest.now ≤ length text.now }
+    ensures { reply (λ behind. (draft_of draft.new, behind.now)) line_refusal result ≡ placed_at (place text.now rest.now) (line_entered (draft_of draft.old) rest.now) }
 {
-    let length = placed(enter_line(draft, &text[start..]), start)?;
-    Ok(length)
+    let place = text.len() - rest.len();
+    let behind = enter_line(draft, rest).map_err(|fault| At { place, fault })?;
+    Ok(behind)
 }

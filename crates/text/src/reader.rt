@@ -5,7 +5,7 @@ ghost use Rattle.text.specs.Fault.{table_refusal};
 ghost use Rattle.text.specs.Reading.{lines, read_after, reading, unless_long};
 ghost use Rattle.text.specs.RoundTrip.{WrittenBack};
 
-use crate::fault::{TableFault, placed};
+use crate::fault::{At, TableFault};
 use crate::line::enter_line_at;
 use tasks::Draft;
 
@@ -14,6 +14,7 @@ pub const LONGEST_TEXT: usize = 4_096;
 
 // Reads a table into the draft, in the place of what it held. A text that is refused leaves the draft as it was. A text that
 // reads is what is written of the tasks read.
+#[tactic(auto, unfolding(crate::specs::Reading::reading), using(crate::proofs::WrittenBack::written_back))]
 pub fn read_table(draft: &mut Draft, text: &[u8]) -> Result<(), TableFault>
     ensures answer { reply (λ _. draft_of draft.new) table_refusal result ≡ reading text.now }
     ensures after { draft_of draft.new ≡ read_after (draft_of draft.old) (reading text.now) }
@@ -39,12 +40,15 @@ fn read_lines(text: &[u8]) -> Result<Draft, TableFault>
     ensures { reply draft_of table_refusal result ≡ lines (length text.now) 1 [] text.now text.now }
 {
     let mut draft = Draft::new();
+    let mut rest = text;
+    // counted by hand: a `for` over 1.. would have to be left by a `break`
     let mut number = 1;
-    let mut start = 0;
-    while start < text.len() {
-        let length = placed(enter_line_at(&mut draft, text, start), number)?;
+    while !rest.is_empty() {
+        rest = enter_line_at(&mut draft, text, rest).map_err(|fault| At {
+            place: number,
+            fault,
+        })?;
         number += 1;
-        start += length;
     }
     Ok(draft)
 }

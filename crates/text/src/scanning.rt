@@ -1,22 +1,52 @@
-ghost use Rattle.std.specs.Prelude.{◌≡◌, ◌+◌, min, length, is_some, if◌then◌else◌, Ok, Err, nat_lt};
-ghost use Rattle.tasks.specs.Reply.{refused, served};
+ghost use Rattle.std.specs.Prelude.{◌≡◌, ◌≤◌, All, OnErr, length, if◌then◌else◌, Ok, Err, nat_lt};
+ghost use Rattle.std.specs.List.{prefix_len};
 ghost use Rattle.text.specs.Fault.{cause_refusal};
-ghost use Rattle.text.specs.Bytes.{expect, expect_all, fault, starts};
-ghost use Rattle.text.specs.Numeral.{field, leading_digits, number_after, numeral};
-ghost use Rattle.text.specs.Views.{bytes_of, digit_of, field_reply, left_of};
-ghost use Rattle.text.specs.declared.fault.NumeralFault.TheVariants.{TooLarge};
+ghost use Rattle.text.specs.Bytes.{expect, expect_all, fault, place, starts};
+ghost use Rattle.text.specs.Numeral.{field, is_digit, leading_digits, leading_zero, number_after, numeral};
+ghost use Rattle.text.specs.Views.{Reads, ReadsField, bytes_of, left_of};
+ghost use Rattle.text.specs.declared.fault.NumeralFault.TheVariants.{LeadingZero, TooLarge};
 
 use crate::cursor::Cursor;
 use crate::fault::{LineCause, NumeralFault};
 
 const LARGEST: u64 = 65_535;
 
-// The value of a numeral that begins at this place, unless it is too large.
-fn limited(value: u64, start: usize) -> Result<u64, NumeralFault>
-    ensures { result ≡ (if nat_lt 65535 value then Err (TooLarge start) else Ok value) }
+// How many digits stand in front of these bytes.
+fn digits_len(bytes: &[u8]) -> usize
+    ensures value { result ≡ prefix_len is_digit bytes.now }
+    ensures within { result ≤ length bytes.now }
 {
-    if value > LARGEST {
-        return Err(NumeralFault::TooLarge(start));
+    bytes
+        .iter()
+        .take_while(|byte| byte.is_ascii_digit())
+        .count()
+}
+
+// The digits in front of these bytes.
+#[tactic(auto, using(crate::proofs::Digits::leading_taken))]
+fn leading_digits(bytes: &[u8]) -> &[u8]
+    ensures value { result.now ≡ leading_digits bytes.now }
+    ensures within { length result.now ≤ length bytes.now }
+{
+    &bytes[..digits_len(bytes)]
+}
+
+// The value of a numeral of these digits, of which the first stands at this place. By hand, since `parse` takes a text and would tell
+// neither a leading zero nor which of the two faults it met.
+#[tactic(auto, using(crate::proofs::Digits::number_grows))]
+fn numeral_value(digits: &[u8], start: usize) -> Result<u64, NumeralFault>
+    requires { All (λ d. 48 ≤ d) digits.now }
+    ensures { result ≡ (if leading_zero digits.now then Err (LeadingZero start) else if nat_lt 65535 (number_after 0 digits.now) then Err (TooLarge start) else Ok (number_after 0 digits.now)) }
+{
+    if let [b'0', _, ..] = digits {
+        return Err(NumeralFault::LeadingZero(start));
+    }
+    let mut value = 0;
+    for digit in digits {
+        value = 10 * value + u64::from(digit - b'0');
+        if value > LARGEST {
+            return Err(NumeralFault::TooLarge(start));
+        }
     }
     Ok(value)
 }
@@ -24,105 +54,85 @@ fn limited(value: u64, start: usize) -> Result<u64, NumeralFault>
 impl<'a> Cursor<'a> {
     pub(crate) fn new(bytes: &'a [u8]) -> Cursor<'a>
         ensures same { bytes_of result ≡ bytes.now }
-        ensures place { result.at ≡ 0 }
+        ensures left { left_of result ≡ bytes.now }
     {
         Cursor { bytes, at: 0 }
+    }
+
+    // The bytes that are left to read.
+    pub(crate) fn left(&self) -> &'a [u8]
+        ensures { result.now ≡ left_of self.now }
+    {
+        &self.bytes[self.at..]
+    }
+
+    // The place of the next byte in the line.
+    fn place(&self) -> usize
+        ensures { result ≡ place (bytes_of self.now) (left_of self.now) }
+    {
+        self.at
     }
 
     // The fault that the next byte is, or the end of the bytes.
     pub(crate) fn unexpected(&self) -> LineCause
         ensures { cause_refusal result ≡ fault 18 (bytes_of self.now) (left_of self.now) }
     {
-        LineCause::Byte(self.at)
+        LineCause::Byte(self.place())
     }
 
     // Whether this byte comes next.
     pub(crate) fn sees(&self, byte: u8) -> bool
         ensures { result ≡ starts byte (left_of self.now) }
     {
-        self.at < self.bytes.len() && self.bytes[self.at] == byte
+        self.left().first() == Some(&byte)
     }
 
-    // Reads this byte, if it comes next.
-    fn take(&mut self, byte: u8) -> bool
-        ensures answer { (if result then served (left_of self.new) else refused (fault 18 (bytes_of self.old) (left_of self.new))) ≡ expect byte (bytes_of self.old) (left_of self.old) }
-        ensures same { bytes_of self.new ≡ bytes_of self.old }
+    // Reads this byte. Where another one comes, nothing is read.
+    pub(crate) fn expect_byte(&mut self, byte: u8) -> Result<(), LineCause>
+        ensures read { Reads (λ _ left. left) (expect byte) self.old self.new result }
+        ensures kept { OnErr result (left_of self.new ≡ left_of self.old) }
     {
-        if !self.sees(byte) {
-            return false;
+        match self.left() {
+            [first, ..] if *first == byte => {
+                self.at += 1;
+                Ok(())
+            }
+            _ => Err(self.unexpected()),
         }
-        self.at += 1;
-        true
     }
 
-    // Reads the bytes of this word, as far as they come next; there is none where another byte comes.
-    pub(crate) fn word(&mut self, word: &[u8]) -> Option<()>
-        ensures answer { (if is_some result then served (left_of self.new) else refused (fault 18 (bytes_of self.old) (left_of self.new))) ≡ expect_all word.now (bytes_of self.old) (left_of self.old) }
-        ensures same { bytes_of self.new ≡ bytes_of self.old }
+    // Reads the bytes of this word, as far as they come next.
+    pub(crate) fn word(&mut self, word: &[u8]) -> Result<(), LineCause>
+        ensures { Reads (λ _ left. left) (expect_all word.now) self.old self.new result }
     {
         for byte in word {
-            if !self.take(*byte) {
-                return None;
-            }
+            self.expect_byte(*byte)?;
         }
-        Some(())
+        Ok(())
     }
 
-    // Reads a digit, if one comes next.
-    fn digit(&mut self) -> Option<u64>
-        ensures answer { result ≡ digit_of (left_of self.old) }
-        ensures place { self.new.at ≡ self.old.at + (if is_some result then 1 else 0) }
-        ensures same { bytes_of self.new ≡ bytes_of self.old }
+    // Reads a numeral. The answer is None where no digit comes next.
+    #[tactic(auto, using(crate::proofs::Digits::leading_above, crate::proofs::Digits::numeral_none, crate::proofs::Digits::numeral_some))]
+    fn numeral(&mut self) -> Result<Option<u64>, NumeralFault>
+        ensures { ReadsField numeral self.old self.new result }
     {
-        if self.at >= self.bytes.len() {
-            return None;
+        let digits = leading_digits(self.left());
+        if digits.is_empty() {
+            return Ok(None);
         }
-        let byte = self.bytes[self.at];
-        if byte < b'0' || byte > b'9' {
-            return None;
-        }
-        self.at += 1;
-        Some(u64::from(byte - b'0'))
+        let value = numeral_value(digits, self.place())?;
+        self.at += digits.len();
+        Ok(Some(value))
     }
 
-    // Reads the digits that come next. A value above the largest one is given as one more than that.
-    fn digits(&mut self) -> u64
-        ensures answer { result ≡ min (number_after 0 (leading_digits (left_of self.old))) 65536 }
-        ensures place { self.new.at ≡ self.old.at + length (leading_digits (left_of self.old)) }
-        ensures same { bytes_of self.new ≡ bytes_of self.old }
+    // Reads a separator and the numeral behind it. The answer is None where another byte comes.
+    #[tactic(auto, unfolding(crate::specs::Numeral::field))]
+    pub(crate) fn field(&mut self, separator: u8) -> Result<Option<u64>, NumeralFault>
+        ensures { ReadsField (field separator) self.old self.new result }
     {
-        let mut value: u64 = 0;
-        while let Some(digit) = self.digit() {
-            value = (10 * value + digit).min(LARGEST + 1);
-        }
-        value
-    }
-
-    // Reads a numeral, if a digit comes next.
-    fn numeral(&mut self) -> Option<Result<u64, NumeralFault>>
-        ensures answer { field_reply result (bytes_of self.old) (left_of self.new) ≡ numeral (bytes_of self.old) (left_of self.old) }
-        ensures same { bytes_of self.new ≡ bytes_of self.old }
-    {
-        let start = self.at;
-        let zero = self.sees(b'0');
-        let value = self.digits();
-        if self.at == start {
-            return None;
-        }
-        if zero && self.at > start + 1 {
-            return Some(Err(NumeralFault::LeadingZero(start)));
-        }
-        Some(limited(value, start))
-    }
-
-    // Reads a separator and the numeral behind it, if they come next; the numeral may still have its fault.
-    pub(crate) fn field(&mut self, separator: u8) -> Option<Result<u64, NumeralFault>>
-        ensures answer { field_reply result (bytes_of self.old) (left_of self.new) ≡ field separator (bytes_of self.old) (left_of self.old) }
-        ensures same { bytes_of self.new ≡ bytes_of self.old }
-    {
-        if !self.take(separator) {
-            return None;
-        }
+        let Ok(()) = self.expect_byte(separator) else {
+            return Ok(None);
+        };
         self.numeral()
     }
 }

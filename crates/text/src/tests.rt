@@ -5,10 +5,7 @@ use tasks::{Draft, EntryRefusal, Quantity};
 // The fault of a text, read into an empty draft.
 fn fault(text: &[u8]) -> Option<TableFault> {
     let mut draft = Draft::new();
-    match read_table(&mut draft, text) {
-        Ok(()) => None,
-        Err(fault) => Some(fault),
-    }
+    read_table(&mut draft, text).err()
 }
 
 // A fault of the first line.

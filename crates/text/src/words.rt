@@ -1,7 +1,7 @@
 // Faults and refusals in words.
 use crate::fault::{LineCause, LineFault, NumeralFault, TableFault, WriteRefusal};
 use std::fmt;
-use tasks::ByNumber;
+use tasks::{ByNumber, Numbered};
 
 impl fmt::Display for NumeralFault {
     fn fmt<W: fmt::Write>(&self, f: &mut fmt::Formatter<W>) -> fmt::Result {

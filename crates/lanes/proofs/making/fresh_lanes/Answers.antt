@@ -9,9 +9,12 @@ use Rattle.lanes.proofs.making.fresh_lanes.Goals as goal
 
 pub loop-task-preserved : goal.loop-task-preserved
 loop-task-preserved c =
-    filled_more lane_of (λ t. fresh_lane (task_of t)) 8 (items c.loop-task.lanes) _ c.args.tasks.now c.loop-task.task-index c.new-in-loop-task.result c.task-item.result
-    c.loop-task-test.true c.requires c.loop-task.invariant c.push.ensures.after (c.new-in-loop-task.ensures ∙ ap (λ t. fresh_lane (task_of t)) c.task-item.is)
+    let tasks = c.tasks-task-items.result.now in
+    filled_more lane_of (λ t. fresh_lane (task_of t)) 8 (items c.loop-task.lanes) _ tasks c.loop-task.task-index c.new-in-loop-task.result c.task-item.result
+    c.loop-task-test.true c.tasks-task-items.ensures.bound c.loop-task.invariant c.push.ensures.after (c.new-in-loop-task.ensures ∙ ap (λ t. fresh_lane (task_of t)) c.task-item.is)
 
 pub returns : goal.returns
 returns c =
-    c.loop-task.invariant ∙ ap (map (λ t. fresh_lane (task_of t))) (take_all c.loop-task.task-index c.args.tasks.now c.loop-task-test.false) ∙ sym (map-map fresh_lane task_of c.args.tasks.now)
+    let tasks = c.tasks-task-items.result.now in
+    c.loop-task.invariant ∙ ap (map (λ t. fresh_lane (task_of t))) (take_all c.loop-task.task-index tasks c.loop-task-test.false) ∙ sym (map-map fresh_lane task_of tasks)
+    ∙ ap (map fresh_lane) c.tasks-task-items.ensures.value

@@ -1,14 +1,15 @@
-use Rattle.std.proofs.Common.{◌≡◌, ◌+◌, ◌-◌, ◌≤◌, [], length, drop}
+use Rattle.std.proofs.Common.{◌≡◌, ◌+◌, ◌-◌, ◌≤◌, [], length}
 use Rattle.tasks.specs.Draft.{draft_of}
 use Rattle.text.specs.Reading.{lines}
 use Rattle.text.proofs.reader.read_lines.Given as goal
 
-abbrev pub invariant-loop-start : goal.invariant-loop-start
-invariant-loop-start l =
-    (lines (length l.text + 1 - l.number) l.number (draft_of l.draft) l.text (drop l.start l.text) ≡ lines (length l.text) 1 [] l.text l.text)
-    × (1 ≤ l.number)
-    × (l.number ≤ l.start + 1)
-    × (l.start ≤ length l.text)
+-- each line that was read has a byte at least, so as many turns are left as there are bytes in front of its number
+abbrev pub invariant-loop-rest : goal.invariant-loop-rest
+invariant-loop-rest l = record {
+  answer : lines (length l.text + 1 - l.number) l.number (draft_of l.draft) l.text l.rest ≡ lines (length l.text) 1 [] l.text l.text;
+  counted : 1 ≤ l.number;
+  within : l.number + length l.rest ≤ length l.text + 1;
+}
 
-abbrev pub decreases-loop-start : goal.decreases-loop-start
-decreases-loop-start l = length l.text - l.start
+abbrev pub decreases-loop-rest : goal.decreases-loop-rest
+decreases-loop-rest l = length l.rest

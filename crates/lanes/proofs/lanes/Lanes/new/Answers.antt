@@ -8,5 +8,5 @@ use Rattle.lanes.proofs.lanes.Lanes.new.Goals as goal
 
 pub invariant_of-result : goal.invariant_of-result
 invariant_of-result c =
-    let own : tasks_of (map lane_of (items c.fresh_lanes.result)) ≡ draft_of c.args.draft.now = ap tasks_of c.fresh_lanes.ensures ∙ tasks_of_fresh _ ∙ c.tasks.ensures.value in
+    let own : tasks_of (map lane_of (items c.fresh_lanes.result)) ≡ draft_of c.args.draft.now = ap tasks_of c.fresh_lanes.ensures ∙ tasks_of_fresh _ in
     omega (arith, ap shares own, c.shares.ensures.value, c.if-shares-gt960.false)

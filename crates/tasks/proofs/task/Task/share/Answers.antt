@@ -1,10 +1,12 @@
-use Rattle.std.proofs.Common.{◌+◌, ◌-◌, ◌*◌, ◌/◌, ◌<◌, div-lt_iff_lt-mul, arith, rules}
+use Rattle.std.proofs.Common.{◌≡◌, ◌*◌, ap, ◌∙◌, arith}
+use Rattle.tasks.specs.Task.{share, share_of, task_of}
+use Rattle.tasks.proofs.Ranges.{rounded_up, share-le}
 use Rattle.tasks.proofs.task.Task.share.Goals as goal
 
 pub returns : goal.returns
 returns c =
     let task = c.args.self.now in
-    let step = c.long_staircase-staircase.result.step in
-    let above = c.long_staircase-staircase.result.step_above in
-    let most : (1024 * task.limit + (step - 1)) / step < 65537 = (div-lt_iff_lt-mul above).1 (omega (arith, task.limit_below)) in
-    record { value = search rules; bound = omega arith }
+    let staircase = c.long_staircase-staircase.result in
+    let value : c.div_ceil.result ≡ share (task_of task) =
+    c.div_ceil.ensures ∙ rounded_up (1024 * task.limit) staircase.step staircase.step_above ∙ ap (share_of task.limit) c.long_staircase-staircase.ensures.value in
+    record { value = value; bound = omega (arith, value, share-le task) }
