@@ -12,7 +12,7 @@ fn main(rt: HostRuntime) -> anyhow::Result<()> {
 }
 
 fn run(rt: &HostRuntime) -> anyhow::Result<()> {
-    // said in both programs: a function that takes the rest of them as a closure would be no plainer
+    // said in both programs: a function that takes the rest of the program as a closure would be no plainer
     let draft = match read_draft(rt.alloc(), rt.stdin())? {
         Ok(draft) => draft,
         Err(fault) => {

@@ -16,7 +16,7 @@ impl Counters {
     {
         let staircases = task.staircases.as_slice();
         let mut buckets = Bounded::new(Bucket::new(staircases[0]));
-        // a loop: to collect, a list of fixed capacity would need a value for its empty slots too
+        // a loop, since `collect` could not be given the value for the empty slots
         for staircase in staircases {
             let _ = buckets.push(Bucket::new(*staircase));
         }

@@ -39,8 +39,8 @@ impl Numbered for OpenRefusal {
     fn number(&self) -> u64 {
         match self {
             OpenRefusal::NoTask => 4,
-            OpenRefusal::ReadingTooLate => 5,
-            OpenRefusal::SharesTooLarge => 6,
+            OpenRefusal::ReadingTooLate => StateRefusal::ReadingTooLate.number(),
+            OpenRefusal::SharesTooLarge => StateRefusal::SharesTooLarge.number(),
             OpenRefusal::Misfit { .. } => 7,
             OpenRefusal::NothingAllowed => 8,
         }

@@ -48,7 +48,7 @@ fn fresh_lanes(draft: &Draft) -> Bounded<Lane, 8>
     ensures { map lane_of (items result) ≡ map fresh_lane (draft_of draft.now) }
 {
     let mut lanes = Bounded::new(Lane::new(&Task::smallest()));
-    // a loop: to collect, a list of fixed capacity would need a value for its empty slots too
+    // a loop, since `collect` could not be given the value for the empty slots
     for task in draft.tasks() {
         let _ = lanes.push(Lane::new(task));
     }

@@ -28,6 +28,7 @@ impl Turn<'_> {
         ensures bound { result ≤ most }
         ensures passes { PassesUpTo self.now most result }
     {
+        // Kept by hand, since the loop ends as soon as no length can lower the margin: a fold would go on to the horizon.
         let mut margin = most;
         // the most that a length so far leaves free
         let mut slack = 0;

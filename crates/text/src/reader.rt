@@ -41,7 +41,7 @@ fn read_lines(text: &[u8]) -> Result<Draft, TableFault>
 {
     let mut draft = Draft::new();
     let mut rest = text;
-    // counted by hand: a `for` over 1.. would have to be left by a `break`
+    // counted by hand: the loop ends where no text is left, for which a `for` over the numbers has no place in its head
     let mut number = 1;
     while !rest.is_empty() {
         rest = enter_line_at(&mut draft, text, rest).map_err(|fault| At {
