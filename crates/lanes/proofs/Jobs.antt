@@ -1,11 +1,11 @@
 -- The pending jobs of a task: what remains of them all, and of those that are due, is bounded by the execution limit.
 use Rattle.std.proofs.Common.{◌≡◌, ℕ, ◌*◌, ◌≤◌, Bool, true, false, cond, ◌&&◌, leb, List, [], ◌∷◌, length, sum_by, refl, mul-le-mul_right, length-take, arith}
 use Rattle.std.proofs.lemmas.Bool.{and_parts, leb-true}
-use Rattle.std.proofs.lemmas.List.Sums.{sum_by-cons}
 use Rattle.bounded.specs.List.{items}
 use Rattle.lanes.specs.Job.{backlog, due_by, within_limit}
 use Rattle.lanes.specs.declared.job.Job.{Job}
 use Rattle.lanes.specs.declared.lane.Lane.{Lane}
+use Rattle.tasks.proofs.Sums.{sum_by_total}
 
 pub backlog-le : (limit : ℕ) (js : List Job) → within_limit limit js ≡ true → backlog js ≤ length js * limit
 backlog-le limit [] w = omega arith
@@ -21,13 +21,12 @@ pub due_by-le-backlog : (t : ℕ) (js : List Job) → due_by t js ≤ backlog js
 due_by-le-backlog t [] = omega arith
 due_by-le-backlog t (j ∷ js) = omega (arith, part-le (leb j.due t) j.remaining, due_by-le-backlog t js)
 
+-- the sums that the chains find
 pub sum_by_backlog : (js : List Job) → sum_by (λ j. j.remaining) js ≡ backlog js
-sum_by_backlog [] = refl
-sum_by_backlog (j ∷ js) = omega (arith, sum_by-cons (λ (k : Job). k.remaining) j js, sum_by_backlog js)
+sum_by_backlog = sum_by_total (λ j. j.remaining) backlog refl (λ j js. refl)
 
 pub sum_by_due : (t : ℕ) (js : List Job) → sum_by (λ j. cond (leb j.due t) j.remaining 0) js ≡ due_by t js
-sum_by_due t [] = refl
-sum_by_due t (j ∷ js) = omega (arith, sum_by-cons (λ (k : Job). cond (leb k.due t) k.remaining 0) j js, sum_by_due t js)
+sum_by_due t = sum_by_total (λ j. cond (leb j.due t) j.remaining 0) (due_by t) refl (λ j js. refl)
 
 -- at most eight jobs are pending, each with at most 64 ticks left
 pub lane_backlog-le : (l : Lane) → backlog (items l.pending) ≤ 512

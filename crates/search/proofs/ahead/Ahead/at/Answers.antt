@@ -11,13 +11,13 @@ use Rattle.search.proofs.ahead.Ahead.at.Goals.{After-sum-work}
 
 -- what the tasks before may ask by a length that is not too long
 small : (a : Ahead) (y : ℕ) → y ≤ 1048576 → ahead_at a y ≤ 2199023255552
-small a y h = omega (arith, loads_bound a.before.now y, mul-le-mul a.few h, a.few, a.low, mul-le-mul a.light h)
+small a y h = omega (arith, loads_bound y a.before.now, mul-le-mul a.few h, a.few, a.low, mul-le-mul a.light h)
 
 -- what the sum is
 asked : (c : After-sum-work) → c.sum-work.result ≡ ahead (map lane_of c.args.self.now.before.now) c.args.length
 asked c =
     let sum : c.sum-work.result ≡ sum_by (λ l. load (lane_of l) c.args.length) c.args.self.now.before.now = search (rules, chains) in
-    sum ∙ loads_sum c.args.self.now.before.now c.args.length
+    sum ∙ loads_sum c.args.length c.args.self.now.before.now
 
 pub overflow_mul-result : goal.overflow_mul-result
 overflow_mul-result c = omega (arith, asked c, small c.args.self.now c.args.length c.requires)
