@@ -55,7 +55,8 @@ impl Bucket {
         self.tokens() > 0
     }
 
-    // The arrivals that this staircase still allows at the `instants` instants that begin now.
+    // The arrivals that this staircase still allows at the `instants` instants that begin now. The counter is taken apart, and not
+    // asked for its tokens and its age: the searches ask this at every length, and took up to a third longer.
     pub(crate) fn allows(&self, instants: u32) -> u64
         ensures { result ≡ bucket_allows instants (bucket_of self.now) }
     {
@@ -63,7 +64,10 @@ impl Bucket {
             return 0;
         }
         let later = u64::from(instants - 1);
-        self.tokens() + (later + self.age()) / self.staircase.step
+        match self.counter {
+            Counter::Full => self.staircase.burst + later / self.staircase.step,
+            Counter::Short { tokens, age } => tokens + (later + age) / self.staircase.step,
+        }
     }
 }
 

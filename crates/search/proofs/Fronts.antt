@@ -35,10 +35,10 @@ standing_added f [] = omega arith
 standing_added f (l ∷ ls) = omega (arith, standing_added (with_lane f l) ls)
 
 -- a front has the shares of its lanes, and what stands of their work
-front_shares : (ls : List LaneModel) → (with_lanes empty_front ls).shares ≡ shares (tasks_of ls)
+pub front_shares : (ls : List LaneModel) → (with_lanes empty_front ls).shares ≡ shares (tasks_of ls)
 front_shares ls = omega (arith, shares_added empty_front ls)
 
-front_standing : (ls : List LaneModel) → (with_lanes empty_front ls).standing ≡ standing ls
+pub front_standing : (ls : List LaneModel) → (with_lanes empty_front ls).standing ≡ standing ls
 front_standing ls = omega (arith, standing_added empty_front ls)
 
 with_lanes_push : (f : FrontModel) (ls : List LaneModel) (l : LaneModel) → with_lanes f (ls ++ l ∷ []) ≡ with_lane (with_lanes f ls) l
@@ -71,11 +71,11 @@ start_added f [] ok = omega arith
 start_added f (l ∷ ls) ok = omega (arith, line_load_rate l ok.0 0, start_added (with_lane f l) ls ok.1)
 
 -- the lines above the loads begin with at most what stands
-front_start : (ls : List LaneModel) → AllByRecursion LaneFormed ls → (with_lanes empty_front ls).start ≤ 1024 * standing ls
+pub front_start : (ls : List LaneModel) → AllByRecursion LaneFormed ls → (with_lanes empty_front ls).start ≤ 1024 * standing ls
 front_start ls ok = omega (arith, start_added empty_front ls ok)
 
 -- how large a front gets
-front_light : (lanes : List Lane) (i : ℕ) → i ≤ 8 → shares (tasks_of (map lane_of lanes)) ≤ 960 → Light (front_before i lanes)
+pub front_light : (lanes : List Lane) (i : ℕ) → i ≤ 8 → shares (tasks_of (map lane_of lanes)) ≤ 960 → Light (front_before i lanes)
 front_light lanes i few light =
     record {
       shares = omega (arith, front_shares (before i lanes), shares_before i lanes);

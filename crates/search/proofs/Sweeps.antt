@@ -16,7 +16,7 @@ pub record Swept (most : ℕ) (d A : ℕ → ℕ) (Δ t m : ℕ) : Type 0 where
   pub tells : (w : ℕ) → 0 < w → (w ≤ m) ↔ ((w ≤ most) × WeighsBelow Δ w d A)
 
 -- one length more
-swept_more : {most : ℕ} {d A : ℕ → ℕ} {Δ t m : ℕ} → Swept most d A Δ t m → (u n : ℕ) → u ≡ max t ((1024 * Δ - A Δ) / 1024)
+pub swept_more : {most : ℕ} {d A : ℕ → ℕ} {Δ t m : ℕ} → Swept most d A Δ t m → (u n : ℕ) → u ≡ max t ((1024 * Δ - A Δ) / 1024)
     → n ≡ cond (eqb (d Δ) 0) m (min m (u - d Δ)) → n ≤ m → Swept most d A (Δ + 1) u n
 swept_more {most} {d} {A} {Δ} {t} {m} s u n grown left le =
     let slack : u ≡ slack_below A (suc Δ) = grown ∙ ap (λ x. max x ((1024 * Δ - A Δ) / 1024)) s.slack in

@@ -13,7 +13,7 @@ use Rattle.tasks.specs.TaskSet.{shares}
 use Rattle.search.specs.Front.{FrontModel, empty_front, with_lane, with_lanes}
 use Rattle.search.specs.Weighing.{asked_after}
 
-asked_more : (ld : LaneModel → ℕ → ℕ) (A : ℕ → ℕ) (ls : List LaneModel) (l : LaneModel)
+pub asked_more : (ld : LaneModel → ℕ → ℕ) (A : ℕ → ℕ) (ls : List LaneModel) (l : LaneModel)
     → asked_after ld A (ls ++ (l ∷ [])) ≡ (λ y. asked_after ld A ls y + ld l y)
 asked_more ld A [] l = refl
 asked_more ld A (k ∷ ls) l = asked_more ld (λ y. A y + ld k y) ls l

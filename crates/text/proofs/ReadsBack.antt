@@ -89,7 +89,7 @@ expect_all_here [] line rest = refl
 expect_all_here (b ∷ bs) line rest = rw (expect_here b line (bs ++ rest)) (expect_all_here bs line rest)
 
 -- a line from what its parts give
-numbers_from : (line C D S rest : List ℕ) (c d : ℕ) (ps : List (ℕ × ℕ))
+pub numbers_from : (line C D S rest : List ℕ) (c d : ℕ) (ps : List (ℕ × ℕ))
     → expect_all task_word line line ≡ served C → field 32 line C ≡ served (c, D) → field 32 line D ≡ served (d, S) → staircases line S ≡ served (ps, rest)
     → numbers line ≡ served (record { limit = c; deadline = d; staircases = ps }, rest)
 unfolding numbers

@@ -12,6 +12,6 @@ returns c =
     let found : c.sum.result ≡ sum_by (λ t. share (task_of t)) tasks = search (rules, chains) in
     let all : c.sum.result ≡ shares (map task_of tasks) = found ∙ sum_by_total (λ t. share (task_of t)) (λ ts. shares (map task_of ts)) refl (λ t ts. refl) tasks in
     record {
-      value = all ∙ ap shares c.tasks.ensures.value;
+      value = omega (arith, all ∙ ap shares c.tasks.ensures.value);
       bound = omega (arith, all, total-le (λ t. share (task_of t)) (λ ts. shares (map task_of ts)) refl (λ t ts. refl) 65536 share-le tasks, c.tasks.ensures.bound);
     }
