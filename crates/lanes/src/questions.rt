@@ -79,7 +79,8 @@ impl Lane {
     }
 
     // The work of the task that is due within `length` ticks of the clock reading `clock`, with the jobs that can still arrive. Two
-    // numbers and no struct: a search keeps the one and goes along the other.
+    // numbers and no struct: a search keeps the one and goes along the other. Inlined, since both searches ask it at every length.
+    #[inline]
     pub fn demand(&self, clock: u64, length: u32) -> u64
         ensures value { result ≡ demand clock (lane_of self.now) length }
         ensures bound { result ≤ 1024 + 64 * length }

@@ -20,6 +20,7 @@ impl Ahead<'_> {
     ghost use Rattle.search.specs.Ahead.{FirstEnough, ahead_at};
 
     // What they may ask by this length, in 1024ths of a tick. That lengths are at most 1,048,576 keeps the sum within 64 bits.
+    #[inline(always)]
     fn at(&self, length: u32) -> u64
         requires { length ≤ 1048576 }
         ensures value { result ≡ ahead_at self.now length }
