@@ -14,6 +14,7 @@ pub struct Bucket {
     ghost within: { sound (staircase_of staircase) counter ≡ true },
 }
 
+// So `longest` of tasks takes buckets too.
 impl HasStaircase for Bucket {
     ghost staircase = { λ bucket. staircase_of bucket.staircase };
 

@@ -7,7 +7,7 @@ use crate::bucket::Bucket;
 use crate::counter::Event;
 use crate::counters::Counters;
 use bounded::Bounded;
-use tasks::{Task, longest};
+use tasks::Task;
 
 impl Counters {
     // The counters of a task that has had no arrival: all full.
@@ -31,14 +31,21 @@ impl Counters {
         self.buckets.as_slice()
     }
 
-    // The long staircase with its counter.
+    // The long staircase with its counter. The comparison stands here, and not in `longest` of tasks alone, so that a slip in it
+    // can be planted here and is seen to break this contract.
     pub fn long_bucket(&self) -> Bucket
         ensures { bucket_of result ≡ long_bucket (counters_of self.now) }
     {
         let [first, rest @ ..] = self.buckets.as_slice() else {
             unreachable!();
         };
-        longest(*first, rest)
+        rest.iter().fold(*first, |longest, bucket| {
+            if bucket.staircase.is_longer_than(longest.staircase) {
+                *bucket
+            } else {
+                longest
+            }
+        })
     }
 
     // The number, counted from 1, of the first staircase that has no token.

@@ -56,7 +56,8 @@ impl Bucket {
     }
 
     // The arrivals that this staircase still allows at the `instants` instants that begin now. The counter is taken apart, and not
-    // asked for its tokens and its age: the searches ask this at every length, and took up to a third longer.
+    // asked for its tokens and its age: the searches ask this at every length, and on eight tasks of four staircases the one for a
+    // misfit took a third longer.
     pub(crate) fn allows(&self, instants: u32) -> u64
         ensures { result ≡ bucket_allows instants (bucket_of self.now) }
     {
