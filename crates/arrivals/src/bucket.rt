@@ -14,7 +14,7 @@ pub struct Bucket {
     ghost within: { sound (staircase_of staircase) counter ≡ true },
 }
 
-// So `longest` of tasks takes buckets too.
+// So a user may ask `longest` of buckets too; this library asks it of staircases alone.
 impl HasStaircase for Bucket {
     ghost staircase = { λ bucket. staircase_of bucket.staircase };
 

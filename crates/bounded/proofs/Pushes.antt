@@ -5,7 +5,7 @@ use Rattle.std.proofs.lemmas.List.{append_assoc, length-take, length_push, take_
 use Rattle.std.specs.Prelude.{nat_lt}
 use Rattle.bounded.specs.List.{pushed}
 
--- the first n of some elements and one more behind them
+-- A push onto the first n of some elements leaves the first n of these with the new one behind them.
 pushed_take : {X : Type 0} (n : ℕ) (zs : List X) (x : X) → pushed n (take n zs) x ≡ take n (zs ++ x ∷ [])
 pushed_take n zs x =
     let long : length (take n zs) ≡ min n (length zs) = length-take n zs in
@@ -16,7 +16,7 @@ pushed_take n zs x =
     (λ h. let full : n ≤ length (take n zs) = ltb-false (length (take n zs)) n h in
     sym (take-append-le n zs (x ∷ []) (omega (arith, long))))
 
--- The loop is at the element i: `xs` stood where it began, and `ys` stand now.
+-- The loop pushes `all`, and is at their element i: `xs` stood where it began, and `ys` stand now.
 pub pushed_more : {X : Type 0} (n i : ℕ) (xs ys all : List X) (x : X) → ys ≡ take n (xs ++ take i all) → i < length all → x ≡ get_or all i x
     → pushed n ys x ≡ take n (xs ++ take (i + 1) all)
 pushed_more n i xs ys all x inv h e =

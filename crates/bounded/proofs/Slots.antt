@@ -14,9 +14,9 @@ module _ {X Y : Type 0} (view : X → Y) (after : Y → Y) (old : List Y) (xs : 
   pub changed_all : length old ≤ i → map view xs ≡ map after old
   changed_all h = inv ∙ ap (λ u. map after u ++ drop i old) (take_all i old h) ∙ ap (λ u. map after old ++ u) (drop_all i old h) ∙ append-nil (map after old)
 
--- A loop over the elements from the place k on, where k is the first place, goes over all of them and puts all of them back. No loop of
--- this crate names a place; with these the answers of `change_each` and `extend` hold for code that does, so that code which begins at
--- the second place is refused for that alone.
+-- A loop over the elements from the place k on, where k is 0, goes over all of them and puts all of them back. No loop of this crate
+-- names the place where it begins; with these the answers of `change_each` and `extend` hold for code that does, so that code which
+-- begins at the second place is refused for that alone.
 pub whole_part : {X : Type 0} (k n : ℕ) (xs : List X) → k ≡ 0 → length xs ≤ n → take n (drop k xs) ≡ xs
 whole_part k n xs h m = ap (λ j. take n (drop j xs)) h ∙ take_all n xs m
 
